@@ -1,0 +1,4 @@
+pub mod Refusals
+pub mod Table
+pub mod Ledger
+pub mod Sheets
