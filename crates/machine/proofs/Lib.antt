@@ -1,0 +1,9 @@
+pub mod Joins
+pub mod Signing
+pub mod SignsAgree
+pub mod Numbers
+pub mod Wiring
+pub mod Parts
+pub mod Passing
+pub mod Growing
+pub mod Finishing
