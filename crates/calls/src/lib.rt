@@ -1,0 +1,6 @@
+// The calls of a script: which call a line is, what it does, and how its answer prints.
+pub mod answer;
+pub mod call;
+pub mod number;
+pub mod parts;
+pub mod session;
