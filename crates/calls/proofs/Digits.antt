@@ -30,6 +30,6 @@ pub whole-number : (w : List ℕ) (i v n : ℕ) → 0 < length w → i ≡ lengt
 whole-number w i v n some e is value digits =
     let rest : drop i w ≡ [] = ap (λ j. drop j w) e ∙ drop-length w in
     sym (some-digits w some
-      ∙ ap (λ t. cond t (Some (min (value-on 0 w) (2 ^ 64))) None) (digits ∙ ap all-digits rest)
-      ∙ ap (λ m. Some (min m (2 ^ 64))) (value ∙ ap (value-on v) rest)
-      ∙ ap Some (sym is))
+    ∙ ap (λ t. cond t (Some (min (value-on 0 w) (2 ^ 64))) None) (digits ∙ ap all-digits rest)
+    ∙ ap (λ m. Some (min m (2 ^ 64))) (value ∙ ap (value-on v) rest)
+    ∙ ap Some (sym is))

@@ -35,7 +35,6 @@ abbrev pub before : List ℕ → Option (List ℕ) → Option (List ℕ)
 before xs None = None
 before xs (Some ys) = Some (xs ++ ys)
 
-
 -- the part that goes on to the end is the last
 pub parts-last : (s : ℕ) (bs : List ℕ) → first-part s bs ≡ length bs → parts s bs ≡ bs ∷ []
 parts-last s [] h = refl
@@ -102,8 +101,8 @@ module _ (line : List ℕ) (at end : ℕ) (inside : at ≤ length line) (ends : 
   pub no-numbers : None ≡ number word → numbers (parts 32 (drop at line)) ≡ None
   no-numbers e =
       elim (cases-lt end (length line)) [
-        inl h ↦ ap numbers (word-more h) ∙ ap (λ z. both z (numbers (parts 32 (drop (end + 1) line)))) (sym e)
-      | inr h ↦ ap numbers (word-last (omega (arith, end-inside))) ∙ ap (λ z. both z (Some [])) (sym e)
+        | inl h ↦ ap numbers (word-more h) ∙ ap (λ z. both z (numbers (parts 32 (drop (end + 1) line)))) (sym e)
+        | inr h ↦ ap numbers (word-last (omega (arith, end-inside))) ∙ ap (λ z. both z (Some [])) (sym e)
       ]
 
   pub one-number : (n : ℕ) → Some n ≡ number word → end ≡ length line → numbers (parts 32 (drop at line)) ≡ Some (n ∷ [])

@@ -25,6 +25,14 @@ verb-of w =
     (cond (sameBytes w (codes "reopen")) (Some verb.Reopen)
     (cond (sameBytes w (codes "translate")) (Some verb.Translate) None))))
 
+-- the name of a call
+abbrev pub verb-in : Call → Verb
+verb-in (call.Write c a b) = verb.Write
+verb-in call.Strike = verb.Strike
+verb-in call.Seal = verb.Seal
+verb-in call.Reopen = verb.Reopen
+verb-in call.Translate = verb.Translate
+
 -- a number past 8 bits counts as 255, which is refused like it
 abbrev pub byte : ℕ → ℕ
 byte n = min n 255

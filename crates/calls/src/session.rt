@@ -9,4 +9,3 @@ pub enum Sheet {
     Open(Draft),
     Shut(Sealed),
 }
-

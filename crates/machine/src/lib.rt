@@ -2,5 +2,7 @@
 pub mod gate;
 pub mod place;
 pub mod signs;
+#[cfg(test)]
+mod tests;
 pub mod translator;
 mod work;

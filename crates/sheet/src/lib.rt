@@ -3,7 +3,6 @@ pub mod draft;
 pub mod line;
 pub mod refusal;
 pub mod sealed;
-pub mod table;
-
+mod table;
 #[cfg(test)]
 mod tests;

@@ -5,7 +5,7 @@ use crate::line::Line;
 
 impl Line {
     /// The line that this code and these operands name, or none where the code is above 11.
-    pub fn named(code: u8, left: u8, right: u8) -> Option<Line>
+    pub(crate) fn named(code: u8, left: u8, right: u8) -> Option<Line>
         ensures { λ r. ⌜ r ≡ named-line code left right ⌝ }
     {
         Some(
@@ -28,7 +28,7 @@ impl Line {
     }
 
     /// Whether a sheet of `count` lines allows these operands in a line of this kind.
-    pub fn allows(self, left: u8, right: u8, count: usize) -> bool
+    pub(crate) fn allows(self, left: u8, right: u8, count: usize) -> bool
         ensures { λ r. ⌜ r ≡ operands-of self count left right ⌝ }
     {
         match self {

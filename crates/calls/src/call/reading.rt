@@ -4,7 +4,7 @@ ghost use Prim.Native.Nat.{_≤_};
 ghost use lib.ListN.{length, drop};
 ghost use Rattle.std.specs.Vec.{made};
 ghost use Rattle.std.specs.shelf.Text.{sameBytes};
-ghost use Rattle.calls.specs.Reading.{byte as byte-of, verb-of, alone as alone-of, call-of, items-in, call-on};
+ghost use Rattle.calls.specs.Reading.{byte as byte-of, verb-of, alone as alone-of, call-of, items-in, call-on, verb-in};
 ghost use Rattle.calls.specs.Words.{parts, numbers};
 use crate::call::Call;
 use crate::call::Verb;
@@ -12,6 +12,21 @@ use crate::number::read_number;
 use crate::parts::part_end;
 use std::alloc::AllocError;
 use std::alloc::Global;
+
+impl Call {
+    /// Its name.
+    pub fn verb(self) -> Verb
+        ensures { λ r. ⌜ r ≡ verb-in self ⌝ }
+    {
+        match self {
+            Call::Write(_, _, _) => Verb::Write,
+            Call::Strike => Verb::Strike,
+            Call::Seal => Verb::Seal,
+            Call::Reopen => Verb::Reopen,
+            Call::Translate => Verb::Translate,
+        }
+    }
+}
 
 fn is(word: &[u8], name: &[u8]) -> bool
     ensures { λ r. ⌜ r ≡ sameBytes (now (word .entry)) (now (name .entry)) ⌝ }
@@ -61,11 +76,7 @@ fn with_numbers(verb: Verb, numbers: &[u128]) -> Option<Call>
             if numbers.len() != 3 {
                 return None;
             }
-            Some(Call::Write(
-                byte(numbers[0]),
-                byte(numbers[1]),
-                byte(numbers[2]),
-            ))
+            Some(Call::Write(byte(numbers[0]), byte(numbers[1]), byte(numbers[2])))
         }
         Verb::Strike => alone(Call::Strike, numbers),
         Verb::Seal => alone(Call::Seal, numbers),

@@ -24,14 +24,14 @@ impl Draft {
     pub fn len(&self) -> usize
         ensures { λ r. ⌜ r ≡ length (lines-of (now (self .entry))) ⌝ }
     {
-        self.count
+        self.lines().len()
     }
 
     /// Whether there is no line.
     pub fn is_empty(&self) -> bool
         ensures { λ r. ⌜ r ≡ eqb (length (lines-of (now (self .entry)))) 0 ⌝ }
     {
-        self.count == 0
+        self.len() == 0
     }
 
     /// The lines, in order.

@@ -12,11 +12,12 @@ returns-then-not-digit c =
 pub loop-b-again : need.loop-b-again
 loop-b-again c =
     let i = c .loop-b .inv in
-    let w = c .args .word .now in
-    (i .0 * 10 + (getD w (c .loop-b .b-index) 0 - 48),
-     omega (arith, c .min-value .ensures, i .1),
-     i .2 ∙ value-more w (c .loop-b .b-index) (i .0) (omega arith),
-     i .3 ∙ digit-more w (c .loop-b .b-index) (omega arith) (sym (c .if-not-digit .ensures tt)))
+    let w = c .args .word .now in (
+      i .0 * 10 + (getD w (c .loop-b .b-index) 0 - 48),
+      omega (arith, c .min-value .ensures, i .1),
+      i .2 ∙ value-more w (c .loop-b .b-index) (i .0) (omega arith),
+      i .3 ∙ digit-more w (c .loop-b .b-index) (omega arith) (sym (c .if-not-digit .ensures tt)),
+    )
 
 pub returns : need.returns
 returns c =

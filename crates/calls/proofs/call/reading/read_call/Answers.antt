@@ -17,8 +17,8 @@ returns-in-rest c =
     let line = c .args .line .now in
     let end = c .part-end-end .result in
     elim (cases-lt end (length line)) [
-      inl h ↦ ap (λ o. named o (numbers (parts 32 (drop (end + 1) line)))) (c .in-rest .ensures tt) ∙ sym (ap spoken (word-more line 0 end (omega arith) (e .end (omega arith)) h))
-    | inr h ↦ ap (λ o. named o (Some [])) (c .in-rest .ensures tt) ∙ sym (ap spoken (word-last line 0 end (omega arith) (e .end (omega arith)) (omega (arith, e .inside .1 (omega arith)))))
+      | inl h ↦ ap (λ o. named o (numbers (parts 32 (drop (end + 1) line)))) (c .in-rest .ensures tt) ∙ sym (ap spoken (word-more line 0 end (omega arith) (e .end (omega arith)) h))
+      | inr h ↦ ap (λ o. named o (Some [])) (c .in-rest .ensures tt) ∙ sym (ap spoken (word-last line 0 end (omega arith) (e .end (omega arith)) (omega (arith, e .inside .1 (omega arith)))))
     ]
 
 pub returns-then-end-line : need.returns-then-end-line

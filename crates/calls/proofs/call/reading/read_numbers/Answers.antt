@@ -22,9 +22,10 @@ returns-then-end-line c =
 pub loop-number-again : need.loop-number-again
 loop-number-again c =
     let i = c .loop-number .inv in
-    let e = c .part-end-end .ensures in
-    (omega (arith, e .inside .1 (i .0)),
-     i .1
-     ∙ ap (before (vec-items (c .loop-number .found))) (more-numbers (c .args .line .now) (c .loop-number .at) (c .part-end-end .result) (i .0) (e .end (i .0)) (c .in-Some .number) (c .in-Some .ensures tt) (omega (arith, e .inside .1 (i .0))))
-     ∙ before-both (vec-items (c .loop-number .found)) (c .in-Some .number) (numbers (parts 32 (drop (c .part-end-end .result + 1) (c .args .line .now))))
-     ∙ ap (λ xs. before xs (numbers (parts 32 (drop (c .part-end-end .result + 1) (c .args .line .now))))) (sym (c .in-Continue-push .ensures tt .items)))
+    let e = c .part-end-end .ensures in (
+      omega (arith, e .inside .1 (i .0)),
+      i .1
+          ∙ ap (before (vec-items (c .loop-number .found))) (more-numbers (c .args .line .now) (c .loop-number .at) (c .part-end-end .result) (i .0) (e .end (i .0)) (c .in-Some .number) (c .in-Some .ensures tt) (omega (arith, e .inside .1 (i .0))))
+          ∙ before-both (vec-items (c .loop-number .found)) (c .in-Some .number) (numbers (parts 32 (drop (c .part-end-end .result + 1) (c .args .line .now))))
+          ∙ ap (λ xs. before xs (numbers (parts 32 (drop (c .part-end-end .result + 1) (c .args .line .now))))) (sym (c .in-Continue-push .ensures tt .items)),
+    )

@@ -15,7 +15,7 @@ returns g c p e =
     let four = c .writeln .ensures .shows (three .plain) e in
     put-is _ _ _ _ _
     (λ i. table-text (codes "gate kind a b") gate-text (c .gates .ensures i)
-      ++ (table-text (codes "var kind a b start") variable-text (c .variables .ensures i)
-      ++ (table-text (codes "fair from to") pair-text (c .pairs .ensures i)
-      ++ (codes "root" ++ (10 ∷ (decimal (c .root-root .ensures i) ++ (10 ∷ [])))))))
+    ++ (table-text (codes "var kind a b start") variable-text (c .variables .ensures i)
+    ++ (table-text (codes "fair from to") pair-text (c .pairs .ensures i)
+    ++ (codes "root" ++ (10 ∷ (decimal (c .root-root .ensures i) ++ (10 ∷ [])))))))
     (put-more _ _ _ _ _ _ one (put-more _ _ _ _ _ _ two (put-more _ _ _ _ _ _ three four)))

@@ -1,0 +1,88 @@
+// Reads calls from standard input, one a line, and prints each answer before the next call is made.
+ghost use Prim.Native.Nat.{_≤_};
+ghost use lib.ListN.{length};
+ghost use Rattle.std.specs.Vec.{made};
+use calls::answer::Answer;
+use calls::answer::AnswerPartialEq;
+use calls::answer::Told;
+use calls::answer::display::ToldDisplay;
+use calls::call::Verb;
+use calls::call::reading::read_call;
+use calls::parts::part_end;
+use calls::session::Sheet;
+use calls::session::performing::Stepped;
+use calls::session::performing::perform;
+use machine::place::Machine;
+use sheet::draft::Draft;
+use std::error::AnyError;
+use std::io;
+use std::io::Read;
+use tables::printed::Printed;
+use tables::printed::display::PrintedDisplay;
+
+/// How many bytes of input are read at most.
+const MOST: usize = 1_048_576;
+
+// Reads standard input until it ends or the buffer is full.
+fn read_input(rt: &LibcRuntime, buf: &mut [u8]) -> io::Result<usize>
+    ensures { λ r. ⌜ made r (λ n. n ≤ length (now (buf .exit))) ⌝ }
+{
+    let mut used = 0;
+    let mut input = rt.stdin();
+    while used < buf.len() {
+        let room = buf.len();
+        let n = input.read(&mut buf[used..room])?;
+        if n == 0 {
+            break;
+        }
+        used += n;
+    }
+    Ok(used)
+}
+
+// Makes the call that the line is, and prints its answer.
+fn answer_line(
+    rt: &LibcRuntime,
+    line: &[u8],
+    number: usize,
+    sheet: Sheet,
+    machine: &mut Machine,
+) -> Result<Sheet, AnyError> {
+    let Some(call) = read_call(rt.alloc(), line)? else {
+        println!(rt, "unread: {number}")?;
+        return Ok(sheet);
+    };
+    let verb = call.verb();
+    let Stepped { sheet, answer } = perform(sheet, call, machine);
+    let told = Told { verb, answer };
+    println!(rt, "{told}")?;
+    if answer == Answer::Tables {
+        let printed = Printed { machine };
+        print!(rt, "{printed}")?;
+    }
+    Ok(sheet)
+}
+
+fn answer_all(rt: &LibcRuntime, text: &[u8]) -> Result<(), AnyError> {
+    let mut sheet = Sheet::Open(Draft::new());
+    let mut machine = Machine::new();
+    let mut at = 0;
+    let mut number = 0;
+    while at < text.len() {
+        let end = part_end(text, at, b'\n');
+        sheet = answer_line(rt, &text[at..end], number, sheet, &mut machine)?;
+        at = end + 1;
+        number += 1;
+    }
+    Ok(())
+}
+
+fn main(rt: LibcRuntime) -> Result<(), AnyError> {
+    let mut buf = vec![in rt.alloc(); 0u8; MOST + 1]?;
+    let used = read_input(&rt, buf.as_mut_slice())?;
+    if used > MOST {
+        println!(rt, "unread: too long")?;
+        return Ok(());
+    }
+    answer_all(&rt, &buf.as_slice()[0..used])
+}
