@@ -1,8 +1,15 @@
-// A small symbolic machine in a fixed place, and the signed translation of a sealed sheet into it.
+// A small symbolic machine in a fixed place, the signed translation of a sealed sheet into it, and what its runs mean.
+pub mod check;
+mod evaluation;
 pub mod gate;
+pub mod laws;
+mod moment;
 pub mod place;
+pub mod refusal;
 pub mod signs;
-#[cfg(test)]
-mod tests;
+mod steps;
 pub mod translator;
 mod work;
+
+#[cfg(test)]
+mod tests;

@@ -1,0 +1,5 @@
+pub mod Levels
+pub mod Flags
+pub mod Waves
+pub mod Made
+pub mod Once

@@ -1,0 +1,10 @@
+pub mod Lattice
+pub mod Folds
+pub mod OneValue
+pub mod Period
+pub mod Build
+pub mod Passes
+pub mod Filling
+pub mod Sweeps
+pub mod Rows
+pub mod Reading

@@ -1,0 +1,9 @@
+// What the lines of a sheet mean on a recording, and the one evaluator.
+mod backward;
+mod cells;
+pub mod evaluator;
+mod forward;
+pub mod laws;
+mod pointwise;
+pub mod refusal;
+mod signals;
