@@ -56,7 +56,7 @@ module _ (K : Kind) (word : Word (K .Value)) (lines : List Line) (sheet : IsShee
   the-values =
       record {
         valuation = exists K word lines is-sheet is-named .1;
-        only = λ g val k hk t. unique K word lines is-sheet g built val (exists K word lines is-sheet is-named .1) k hk t
+        only = λ g val k hk t. unique K word lines is-sheet g built val (exists K word lines is-sheet is-named .1) k hk t;
       }
 
   on : (P : (ℕ → Values K) → Type 0) → P built → On K word lines P
@@ -136,10 +136,10 @@ module _ (K : Kind) (tv : TwoValued K) where
       let says = logic K full either-way either-sheet named tv in
       on K full either-way either-sheet named (λ f. f 3 0 ≡ K .Yes)
       (says 3 (lit< tt) 0 .1
-        (elim (tv .one-of (full .at 0 0)) [
-          inl e ↦ inr (says 2 (lit< tt) 0 .1 (λ h. tv .differ (sym e ∙ says 1 (lit< tt) 0 .0 h)))
+      (elim (tv .one-of (full .at 0 0)) [
+        | inl e ↦ inr (says 2 (lit< tt) 0 .1 (λ h. tv .differ (sym e ∙ says 1 (lit< tt) 0 .0 h)))
         | inr e ↦ inl (says 0 (lit< tt) 0 .1 e)
-        ]))
+      ]))
 
   pub worked : WorkedExamples K
   worked =
@@ -160,5 +160,5 @@ module _ (K : Kind) (tv : TwoValued K) where
         both-signs-variables = refl;
         both-signs-pairs = refl;
         both-signs-never = both-signs-never;
-        wheel-turns = (refl, refl, refl, refl)
+        wheel-turns = (refl, refl, refl, refl);
       }

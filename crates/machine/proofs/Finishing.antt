@@ -27,7 +27,7 @@ module _ (lines : List Line) (w : Work) (sheet : Sheet lines) (some : 0 < length
         gates = built .parts-are i .gates;
         variables = built .parts-are i .variables;
         pairs = built .parts-are i .pairs;
-        root = built .places (rule-of lines) (omega arith) i
+        root = built .places (rule-of lines) (omega arith) i;
       }
 
   wired : Wired held

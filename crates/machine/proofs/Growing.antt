@@ -69,10 +69,10 @@ module _ (k : ℕ) (p q : ℕ → ℕ) (e : (a : ℕ) → a < k → p a ≡ q a)
   added-agrees : (f v : ℕ) (signs : Sign → Bool) (y : Line) (b : Parts) → Lower k y → added p f v signs y b ≡ added q f v signs y b
   added-agrees f v signs y b low =
       λ i. extended
-        (cond (is-used signs) (gates-agree f v y low i) [])
-        (cond (is-used signs) (variables-agree (f + (size y - 1)) y low i) [])
-        (pairs-agree (f + (size y - 1)) signs y low i)
-        b
+      (cond (is-used signs) (gates-agree f v y low i) [])
+      (cond (is-used signs) (variables-agree (f + (size y - 1)) y low i) [])
+      (pairs-agree (f + (size y - 1)) signs y low i)
+      b
 
 cond-le : (b : Bool) (m most : ℕ) → m ≤ most → cond b m 0 ≤ most
 cond-le true m most h = h
@@ -85,7 +85,6 @@ module _ (lines : List Line) (k : ℕ) (w w′ : Work) (s : Signs) (sheet : Shee
     (variables : w′ .«variable_count» ≡ w .«variable_count» + cond (is-used (told s)) (memory (line lines k)) 0)
     (pairs : w′ .«pair_count» ≤ w .«pair_count» + 1)
     (places : w′ .places ≡ set (w .places) k (w .«gate_count» + (size (line lines k) - 1))) where
-
   abbrev x : ℕ → Line
   x = line lines
 
@@ -114,8 +113,8 @@ module _ (lines : List Line) (k : ℕ) (w w′ : Work) (s : Signs) (sheet : Shee
         variables = variables ∙ (λ i. built .variables i + cond (is-used (signs i)) (memory (x k)) 0) ∙ ap (name x n r) (sym (add-one k));
         places = λ j h. elim (below-suc j k (omega arith)) [ inl a ↦ place-old j a | inr e ↦ subst (λ z. place-in w′ z ≡ place x n r z) (sym e) place-now ];
         room = record {
-            gates = omega (arith, built .room .gates, cond-le (is-used (told s)) (size (x k)) 3 (size-le (x k)));
-            variables = omega (arith, built .room .variables, cond-le (is-used (told s)) (memory (x k)) 1 (memory-le (x k)));
-            pairs = omega (arith, built .room .pairs)
-          };
+          gates = omega (arith, built .room .gates, cond-le (is-used (told s)) (size (x k)) 3 (size-le (x k)));
+          variables = omega (arith, built .room .variables, cond-le (is-used (told s)) (memory (x k)) 1 (memory-le (x k)));
+          pairs = omega (arith, built .room .pairs);
+        };
       }

@@ -16,8 +16,8 @@ pub total-le : (c : ℕ → ℕ) (k n : ℕ) → k < n → total c k + c k ≤ t
 total-le c k zero h = absurd (not-suc-le-zero h)
 total-le c k (suc n) h =
     elim (below-suc k n h) [
-      inl a ↦ (let q : total c k + c k ≤ total c n = total-le c k n a in omega arith)
-    | inr e ↦ (let q : total c k + c k ≡ total c n + c n = ap (λ m. total c m + c m) e in omega arith)
+      | inl a ↦ (let q : total c k + c k ≤ total c n = total-le c k n a in omega arith)
+      | inr e ↦ (let q : total c k + c k ≡ total c n + c n = ap (λ m. total c m + c m) e in omega arith)
     ]
 
 module _ {A : Type 0} where
@@ -34,19 +34,19 @@ module _ {A : Type 0} where
     joined-at zero k i h hi = absurd (not-suc-le-zero h)
     joined-at (suc n) k i h hi =
         elim (below-suc k n h) [
-          inl a ↦
-          List·getD-append (joined l n) (l n) d (total c k + i) (omega (arith, total-le c k n a, joined-length n)) ∙ joined-at n k i a hi
-        | inr e ↦
-          ap (λ m. getD (joined l n ++ l n) (m + i) d) (ap (total c) e ∙ sym (joined-length n)) ∙ getD-after (joined l n) (l n) i d
-          ∙ ap (λ m. getD (l m) i d) (sym e)
+          | inl a ↦
+              List·getD-append (joined l n) (l n) d (total c k + i) (omega (arith, total-le c k n a, joined-length n)) ∙ joined-at n k i a hi
+          | inr e ↦
+              ap (λ m. getD (joined l n ++ l n) (m + i) d) (ap (total c) e ∙ sym (joined-length n)) ∙ getD-after (joined l n) (l n) i d
+              ∙ ap (λ m. getD (l m) i d) (sym e)
         ]
 
     pub joined-find : (n j : ℕ) → j < length (joined l n) → (k : ℕ) × (i : ℕ) × (k < n) × (i < c k) × (j ≡ total c k + i)
     joined-find zero j h = absurd (not-suc-le-zero h)
     joined-find (suc n) j h =
         elim (decLt j (total c n)) [
-          yes a ↦
-          (let w = joined-find n j (omega (arith, joined-length n)) in
-            (w .0, w .1, omega (arith, w .2), w .3, w .4))
-        | no b ↦ (n, j - total c n, omega arith, omega (arith, joined-length (suc n)), omega arith)
+          | yes a ↦
+              (let w = joined-find n j (omega (arith, joined-length n)) in
+              (w .0, w .1, omega (arith, w .2), w .3, w .4))
+          | no b ↦ (n, j - total c n, omega arith, omega (arith, joined-length (suc n)), omega arith)
         ]

@@ -33,8 +33,8 @@ pub rule-first : (r : ℕ) → r < 64 → (a : ℕ) (s : Sign) → sign-in (set 
 rule-first r h a s =
     let l = length-replicate 64 unsigned in
     elim (cases-eq a r) [
-      inl e ↦ told-rule true r a s (eq-eqb a r e) _ (ap (λ k. getD (set (replicate 64 unsigned) r positive) k unsigned) e ∙ getD-set-same (replicate 64 unsigned) r positive unsigned (omega arith))
-    | inr ne ↦ told-rule false r a s (ne-eqb a r ne) _ (getD-set-other (replicate 64 unsigned) r a positive unsigned ne ∙ all-alike 64 a unsigned)
+      | inl e ↦ told-rule true r a s (eq-eqb a r e) _ (ap (λ k. getD (set (replicate 64 unsigned) r positive) k unsigned) e ∙ getD-set-same (replicate 64 unsigned) r positive unsigned (omega arith))
+      | inr ne ↦ told-rule false r a s (ne-eqb a r ne) _ (getD-set-other (replicate 64 unsigned) r a positive unsigned ne ∙ all-alike 64 a unsigned)
     ]
 
 -- line k - 1 has handed its signs on

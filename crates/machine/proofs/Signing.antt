@@ -108,25 +108,23 @@ module _ (x : ℕ → Line) (r : ℕ) where
   down zero m a s low h e = subst (λ z. signed x r 0 z a s ≡ true) (zero-add m) e
   down (suc k) m a s low h e =
       elim
-        (or-cases (signed x r (suc k) m a s) (hands (x k) (signed x r (suc k) m k) a s)
-          (down k (suc m) a s (λ j hj. low j (omega arith)) (omega arith)
-            (subst (λ z. signed x r 0 z a s ≡ true) (suc-add k m ∙ sym (add-suc k m)) e)))
-      [
-        inl q ↦ q
-      | inr q ↦
-        (let w : a < k = hands-lower (x k) k (low k (omega arith)) (signed x r (suc k) m k) a s q in absurd (omega arith))
+      (or-cases (signed x r (suc k) m a s) (hands (x k) (signed x r (suc k) m k) a s)
+      (down k (suc m) a s (λ j hj. low j (omega arith)) (omega arith)
+      (subst (λ z. signed x r 0 z a s ≡ true) (suc-add k m ∙ sym (add-suc k m)) e))) [
+        | inl q ↦ q
+        | inr q ↦
+            (let w : a < k = hands-lower (x k) k (low k (omega arith)) (signed x r (suc k) m k) a s q in absurd (omega arith))
       ]
 
   module _ (n : ℕ) (low : (k : ℕ) → k < n → Lower k (x k)) where
     own-signs : (k m : ℕ) → k + suc m ≡ n → (s : Sign) → has x n r k s ≡ true → signed x r (suc k) m k s ≡ true
     own-signs k m e s h =
         elim
-          (or-cases (signed x r (suc k) m k s) (hands (x k) (signed x r (suc k) m k) k s)
-            (down k (suc m) k s (λ j hj. low j (omega arith)) (omega arith) (subst (λ z. signed x r 0 z k s ≡ true) (sym e) h)))
-        [
-          inl q ↦ q
-        | inr q ↦
-          (let w : k < k = hands-lower (x k) k (low k (omega arith)) (signed x r (suc k) m k) k s q in absurd (omega arith))
+        (or-cases (signed x r (suc k) m k s) (hands (x k) (signed x r (suc k) m k) k s)
+        (down k (suc m) k s (λ j hj. low j (omega arith)) (omega arith) (subst (λ z. signed x r 0 z k s ≡ true) (sym e) h))) [
+          | inl q ↦ q
+          | inr q ↦
+              (let w : k < k = hands-lower (x k) k (low k (omega arith)) (signed x r (suc k) m k) k s q in absurd (omega arith))
         ]
 
     hand-on : (k m : ℕ) → k + suc m ≡ n → (a : ℕ) (s : Sign) → hands (x k) (signed x r (suc k) m k) a s ≡ true → has x n r a s ≡ true

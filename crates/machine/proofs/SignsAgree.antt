@@ -59,8 +59,8 @@ module _ (x : ℕ → Line) (n r : ℕ) where
   to-relation zero k e a minus h = absurd (false≢true h)
   to-relation (suc m) k e a s h =
       elim (or-cases (signed x r (suc k) m a s) (hands (x k) (signed x r (suc k) m k) a s) h) [
-        inl q ↦ to-relation m (suc k) (omega arith) a s q
-      | inr q ↦ from-line k (omega arith) (x k) refl (signed x r (suc k) m k) (λ s′ q′. to-relation m (suc k) (omega arith) k s′ q′) a s q
+        | inl q ↦ to-relation m (suc k) (omega arith) a s q
+        | inr q ↦ from-line k (omega arith) (x k) refl (signed x r (suc k) m k) (λ s′ q′. to-relation m (suc k) (omega arith) k s′ q′) a s q
       ]
 
   from-relation : (low : (k : ℕ) → k < n → Lower k (x k)) (a : ℕ) (s : Sign) → HasSign x n r a s → has x n r a s ≡ true
@@ -71,6 +71,7 @@ module _ (x : ℕ → Line) (n r : ℕ) where
       hands-on (x k) s′ b (λ j s″. has x n r j s″ ≡ true) (closed x r n low k hk s′ (from-relation low k s′ d)) h
 
 pub signs-are : (lines : List Line) → Sheet lines → SignsAre lines
-signs-are lines sheet k s =
-    (to-relation (line lines) (length lines) (rule-of lines) (length lines) 0 (zero-add (length lines)) k s,
-     from-relation (line lines) (length lines) (rule-of lines) sheet k s)
+signs-are lines sheet k s = (
+  to-relation (line lines) (length lines) (rule-of lines) (length lines) 0 (zero-add (length lines)) k s,
+  from-relation (line lines) (length lines) (rule-of lines) sheet k s,
+)

@@ -140,7 +140,7 @@ module _ (x : ℕ → Line) (n r : ℕ) (low : (k : ℕ) → k < n → Lower k (
       let ops = good-used k (w .2) (u .0) in
       subst (λ z. gate-fits z V (gate-at (translation x n r .gates) z) ≡ true) (sym (w .4))
       (subst (Early k (w .1)) (sym (gate-is x n r k (w .2) (u .0) (x k) refl (w .1) (u .1)))
-        (early k (w .1) (x k) (ops .0) (low k (w .2)) (variable-in x n r k (w .2) (u .0) (x k) refl) (ops .1) (u .1)))
+      (early k (w .1) (x k) (ops .0) (low k (w .2)) (variable-in x n r k (w .2) (u .0) (x k) refl) (ops .1) (u .1)))
 
   variables-wired : (j : ℕ) → j < V → variable-fits G (variable-at (translation x n r .variables) j) ≡ true
   variables-wired j hj =
@@ -152,7 +152,7 @@ module _ (x : ℕ → Line) (n r : ℕ) (low : (k : ℕ) → k < n → Lower k (
       let e : j ≡ name x n r k = omega (arith, w .4, memory-le (x k), u .1) in
       subst (λ z. variable-fits G (variable-at (translation x n r .variables) z) ≡ true) (sym e)
       (subst (λ z. variable-fits G z ≡ true) (sym (variable-is x n r k (w .2) (u .0) (x k) refl one))
-        (within k (x k) (ops .0) (ops .1) (place-in k (w .2) (u .0)) one))
+      (within k (x k) (ops .0) (ops .1) (place-in k (w .2) (u .0)) one))
 
   pairs-wired : (j : ℕ) → j < length (translation x n r .pairs) → pair-fits G (pair-at (translation x n r .pairs) j) ≡ true
   pairs-wired j hj =
@@ -160,7 +160,7 @@ module _ (x : ℕ → Line) (n r : ℕ) (low : (k : ℕ) → k < n → Lower k (
       let k : ℕ = w .0 in
       subst (λ z. pair-fits G (pair-at (translation x n r .pairs) z) ≡ true) (sym (w .4))
       (subst (λ z. pair-fits G z ≡ true) (sym (joined-at (pair-lists x n r) no-pair (pair-count x n r) (λ _. refl) n k (w .1) (w .2) (w .3)))
-        (ends k (w .2) (x k) (good k (w .2)) (w .1) (w .3) no-pair))
+      (ends k (w .2) (x k) (good k (w .2)) (w .1) (w .3) no-pair))
 
   pub wired-by : r < n → Wired (translation x n r)
   wired-by h =

@@ -8,8 +8,7 @@ pub mod place;
 pub mod refusal;
 pub mod signs;
 mod steps;
-pub mod translator;
-mod work;
-
 #[cfg(test)]
 mod tests;
+pub mod translator;
+mod work;

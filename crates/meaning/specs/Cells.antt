@@ -1,4 +1,4 @@
--- The cells as a table: cell t * width + k is line k at sample t.
+-- The cells as a table, for the evaluator's inner functions: cell t * width + k is line k at sample t.
 use mathlib.Core.Path.{_≡_}
 use mathlib.Core.List.{List}
 use Prim.Native.Nat.{ℕ, _+_, _*_, _≤_, _<_}

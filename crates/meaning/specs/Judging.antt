@@ -1,4 +1,4 @@
--- How the values of an until are found in two passes down the samples.
+-- How the values of an until are found in two passes down the samples: what the evaluator rests on.
 use mathlib.Core.Path.{_≡_}
 use mathlib.Core.List.{List}
 use Prim.Native.Nat.{ℕ, zero, suc, _+_, _*_, _<_}
@@ -22,6 +22,7 @@ module _ (K : Kind) where
     pub again : y (S + v) ≡ y S
     pub down : (t : ℕ) → y t ≡ K .Or (r t) (K .And (l t) (y (suc t)))
 
+  -- what two passes give, of the lines that look ahead for ever
   abbrev pub Future : Word (K .Value) → Line → (ℕ → Values K) → Values K → ℕ → Type 0
   Future word (Until a b) f y S = TwoPasses (f a) (f b) y S (word .cycle) (K .No)
   Future word (WeakUntil a b) f y S = TwoPasses (f a) (f b) y S (word .cycle) (K .Yes)
@@ -36,6 +37,7 @@ module _ (K : Kind) where
   Future word (Since a b) f y S = Unit {0}
   Future word (WeakSince a b) f y S = Unit {0}
 
+  -- every until of a valuation is found so
   abbrev pub Judged : Type 0
   Judged =
       (word : Word (K .Value)) (lines : List Line) → Sheet lines → HasSignals lines (word .signals) → (f : ℕ → Values K) → Valuation K word lines f

@@ -1,4 +1,4 @@
--- The theorems' statements.
+-- Laws of the valuation, at each truth kind.
 use mathlib.Core.Path.{_≡_}
 use mathlib.Core.List.{List}
 use Prim.Native.Nat.{ℕ, suc, _+_, _*_, _<_}

@@ -3,7 +3,7 @@ ghost use mathlib.Core.Path.{_≡_};
 ghost use Prim.Native.Nat.{suc, _-_, _+_, _<_, _≤_};
 ghost use lib.ListN.{length, getD, set};
 ghost use Rattle.meaning.specs.Cells.{Room, column, Fills};
-ghost use Rattle.meaning.specs.Columns.{following as next-sample};
+ghost use Rattle.meaning.specs.Columns.{following as next-sample, passes};
 ghost use Rattle.meaning.specs.Judging.{pass};
 use crate::cells::Grid;
 use crate::cells::put;
@@ -57,7 +57,7 @@ pub(crate) fn fill_until<T: Truth>(
     start: T,
 )
     requires { ⌜ Room (now cells) (grid .width) (grid .samples) ⌝ ∗ ⌜ line < grid .width ⌝ ∗ ⌜ left < line ⌝ ∗ ⌜ right < line ⌝ ∗ ⌜ grid .steady < grid .samples ⌝ }
-    ensures { λ _. ⌜ Fills means (grid .width) line (now (cells .entry)) (λ d t. pass kind (column means (now (cells .entry)) (grid .width) left d) (column means (now (cells .entry)) (grid .width) right d) t (grid .samples - t) (pass kind (column means (now (cells .entry)) (grid .width) left d) (column means (now (cells .entry)) (grid .width) right d) (grid .steady) (grid .samples - grid .steady) (means start))) 0 (grid .samples) (now (cells .exit)) ⌝ }
+    ensures { λ _. ⌜ Fills means (grid .width) line (now (cells .entry)) (λ d t. passes kind (column means (now (cells .entry)) (grid .width) left d) (column means (now (cells .entry)) (grid .width) right d) (grid .steady) (grid .samples) (means start) t) 0 (grid .samples) (now (cells .exit)) ⌝ }
 {
     let mut held = sweep(cells, grid, left, right, start);
     for t in (0..grid.samples).rev() {

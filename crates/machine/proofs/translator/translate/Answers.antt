@@ -9,8 +9,7 @@ ghost-machine c =
     let w = c .filled-work .result in
     let ls = c .lines-lines .result .now in
     let l = c .lines-lines .ensures in
-    let built = c .filled-work .ensures in
-    (
+    let built = c .filled-work .ensures in (
       w .sized,
       (
         w .within,
