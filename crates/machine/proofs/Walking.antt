@@ -21,9 +21,9 @@ use Rattle.machine.specs.declared.gate.Pair.{Pair}
 use Rattle.machine.specs.declared.gate.Variable.{Variable}
 use Rattle.machine.specs.declared.gate.Variable.the-variants as variable
 use Rattle.machine.specs.declared.moment.Moment.{Moment}
-use Rattle.machine.specs.Answers.{Shape, Accepted}
+use Rattle.machine.specs.CheckAnswer.{Shape, Accepted}
 use Rattle.machine.specs.Checks.{HasGateSignals, Turns, Evaluates, Comes, Passes}
-use Rattle.machine.specs.Moments.{row-bits, listed, Shows, gates-of, bits-of, is-met}
+use Rattle.machine.specs.Moments.{row-bits, listed, MomentAt, gates-from, bits-from, is-met}
 use Rattle.machine.specs.Runs.{Bits, Reads, Starts, Equation, Met, after}
 use Rattle.machine.specs.Tables.{Tables, Wired, gate-at, variable-at, pair-at, gate-fits, variable-fits, pair-fits}
 use Rattle.machine.proofs.AsBits.{bits-of as as-bits}
@@ -67,7 +67,7 @@ module _ (K : Kind) (only : TwoValued K) (m : Tables) (wired : Wired m) (word : 
 
 -- the moments of rows are what the gates' bits say
 module _ (K : Kind) (m : Tables) (wired : Wired m) (word : Word (K .Value)) (n : ℕ) (rows : List ℕ) (g : Bits) (ev : Evaluates K m word n (row-bits rows) g) where
-  module _ (t : ℕ) (ht : t < n) (x : Moment) (shows : Shows K (m .gates) word rows t x) where
+  module _ (t : ℕ) (ht : t < n) (x : Moment) (shows : MomentAt K (m .gates) word rows t x) where
     agrees-to : (l j : ℕ) → j < l → j < length (m .gates) → g j t ≡ getD (x .values) j false
     agrees-to zero j h hj = absurd (not-suc-le-zero h)
     agrees-to (suc l) j h hj =
@@ -87,11 +87,11 @@ module _ (K : Kind) (m : Tables) (wired : Wired m) (word : Word (K .Value)) (n :
         let q = and-parts (ltb (p .from) (length (m .gates))) (ltb (p .to) (length (m .gates))) fit in
         ap₂ (λ a b. not a || b) (sym (agrees (p .from) (ltb-true (p .from) (length (m .gates)) (q .0)))) (sym (agrees (p .to) (ltb-true (p .to) (length (m .gates)) (q .1))))
 
-  module _ (t u : ℕ) (ht : t < n) (hu : u < n) (x y : Moment) (here : Shows K (m .gates) word rows t x) (there : Shows K (m .gates) word rows u y) where
+  module _ (t u : ℕ) (ht : t < n) (hu : u < n) (x y : Moment) (here : MomentAt K (m .gates) word rows t x) (there : MomentAt K (m .gates) word rows u y) where
     below : (a : ℕ) → ltb a (length (m .gates)) ≡ true → a < length (m .gates)
     below a h = ltb-true a (length (m .gates)) h
 
-    pub equation-told : (z : Variable) (j : ℕ) → variable-fits (length (m .gates)) z ≡ true → Equation g z (row-bits rows j) t u → Equation (gates-of x y) z (bits-of x y j) 0 1
+    pub equation-told : (z : Variable) (j : ℕ) → variable-fits (length (m .gates)) z ≡ true → Equation g z (row-bits rows j) t u → Equation (gates-from x y) z (bits-from x y j) 0 1
     equation-told (variable.Next a) j fit e = sym (row-is t ht x here j) ∙ e ∙ agrees u hu y there a (below a fit)
     equation-told (variable.Until a b) j fit e =
         let q = and-parts (ltb a (length (m .gates))) (ltb b (length (m .gates))) fit in
@@ -100,7 +100,7 @@ module _ (K : Kind) (m : Tables) (wired : Wired m) (word : Word (K .Value)) (n :
         ∙ ap (λ d. getD (x .values) b false || (getD (x .values) a false && d)) (row-is u hu y there j)
     equation-told (variable.Back a s) j fit e = sym (row-is u hu y there j) ∙ e ∙ agrees t ht x here a (below a fit)
 
-    pub equation-tells : (z : Variable) (j : ℕ) → variable-fits (length (m .gates)) z ≡ true → Equation (gates-of x y) z (bits-of x y j) 0 1 → Equation g z (row-bits rows j) t u
+    pub equation-tells : (z : Variable) (j : ℕ) → variable-fits (length (m .gates)) z ≡ true → Equation (gates-from x y) z (bits-from x y j) 0 1 → Equation g z (row-bits rows j) t u
     equation-tells (variable.Next a) j fit e = row-is t ht x here j ∙ e ∙ sym (agrees u hu y there a (below a fit))
     equation-tells (variable.Until a b) j fit e =
         let q = and-parts (ltb a (length (m .gates))) (ltb b (length (m .gates))) fit in
@@ -110,14 +110,14 @@ module _ (K : Kind) (m : Tables) (wired : Wired m) (word : Word (K .Value)) (n :
     equation-tells (variable.Back a s) j fit e = row-is u hu y there j ∙ e ∙ sym (agrees t ht x here a (below a fit))
 
 -- the first row, where a variable starts
-pub starts-told : (K : Kind) (gates : List Gate) (word : Word (K .Value)) (rows : List ℕ) (x : Moment) → Shows K gates word rows 0 x → (z : Variable) (j : ℕ)
-    → Starts z (row-bits rows j) → Starts z (bits-of x x j)
+pub starts-told : (K : Kind) (gates : List Gate) (word : Word (K .Value)) (rows : List ℕ) (x : Moment) → MomentAt K gates word rows 0 x → (z : Variable) (j : ℕ)
+    → Starts z (row-bits rows j) → Starts z (bits-from x x j)
 starts-told K gates word rows x shows (variable.Next a) j h = tt
 starts-told K gates word rows x shows (variable.Until a b) j h = tt
 starts-told K gates word rows x shows (variable.Back a s) j h = ap (λ z. bit z j) (shows .row) ∙ h
 
-pub starts-tell : (K : Kind) (gates : List Gate) (word : Word (K .Value)) (rows : List ℕ) (x : Moment) → Shows K gates word rows 0 x → (z : Variable) (j : ℕ)
-    → Starts z (bits-of x x j) → Starts z (row-bits rows j)
+pub starts-tell : (K : Kind) (gates : List Gate) (word : Word (K .Value)) (rows : List ℕ) (x : Moment) → MomentAt K gates word rows 0 x → (z : Variable) (j : ℕ)
+    → Starts z (bits-from x x j) → Starts z (row-bits rows j)
 starts-tell K gates word rows x shows (variable.Next a) j h = tt
 starts-tell K gates word rows x shows (variable.Until a b) j h = tt
 starts-tell K gates word rows x shows (variable.Back a s) j h = ap (λ z. bit z j) (sym (shows .row)) ∙ h
@@ -141,7 +141,7 @@ getD-none (suc n) (suc j) = getD-none n j
 -- `met` tells which pairs were met from row back on
 pub record Walked (K : Kind) (m : Tables) (word : Word (K .Value)) (rows : List ℕ) (back i : ℕ) (here : Moment) (met : List Bool) : Type 0 where
   pub sized : length met ≡ 64
-  pub shows : Shows K (m .gates) word rows (cond (ltb i (length rows)) i back) here
+  pub shows : MomentAt K (m .gates) word rows (cond (ltb i (length rows)) i back) here
   pub equations : (g : Bits) → Evaluates K m word (length rows) (row-bits rows) g → (t : ℕ) → t < i
       → (j : ℕ) → j < length (m .variables) → Equation g (variable-at (m .variables) j) (row-bits rows j) t (after (length rows) back t)
   pub pairs : (g : Bits) → Evaluates K m word (length rows) (row-bits rows) g
@@ -151,23 +151,23 @@ module _ (K : Kind) (m : Tables) (wired : Wired m) (word : Word (K .Value)) (row
   abbrev n : ℕ
   n = length rows
 
-  pub walked-none : (first : Moment) (met : List Bool) → Shows K (m .gates) word rows 0 first → length met ≡ 64 → ((j : ℕ) → getD met j false ≡ false) → Walked K m word rows back 0 first met
+  pub walked-none : (first : Moment) (met : List Bool) → MomentAt K (m .gates) word rows 0 first → length met ≡ 64 → ((j : ℕ) → getD met j false ≡ false) → Walked K m word rows back 0 first met
   walked-none first met shows sized none =
       record {
         sized = sized;
-        shows = subst (λ b. Shows K (m .gates) word rows (cond b 0 back) first) (sym (lt-ltb 0 n (omega arith))) shows;
+        shows = subst (λ b. MomentAt K (m .gates) word rows (cond b 0 back) first) (sym (lt-ltb 0 n (omega arith))) shows;
         equations = λ g ev t h. absurd (not-suc-le-zero h);
         pairs = λ g ev j hj. (λ e. absurd (false≢true (sym (none j) ∙ e)), λ w. absurd (not-suc-le-zero (w .2)));
       }
 
   module _ (i : ℕ) (hi : i < n) (here there : Moment) (met met′ : List Bool) (walked : Walked K m word rows back i here met) where
-    pub here-shows : Shows K (m .gates) word rows i here
-    here-shows = subst (λ b. Shows K (m .gates) word rows (cond b i back) here) (lt-ltb i n hi) (walked .shows)
+    pub here-shows : MomentAt K (m .gates) word rows i here
+    here-shows = subst (λ b. MomentAt K (m .gates) word rows (cond b i back) here) (lt-ltb i n hi) (walked .shows)
 
-    module _ (next : Shows K (m .gates) word rows (after n back i) there) (after-in : after n back i < n) where
+    module _ (next : MomentAt K (m .gates) word rows (after n back i) there) (after-in : after n back i < n) where
       -- the equations of the row at hand, as the code finds them
       abbrev Kept : Type 0
-      Kept = (j : ℕ) → j < length (m .variables) → Equation (gates-of here there) (variable-at (m .variables) j) (bits-of here there j) 0 1
+      Kept = (j : ℕ) → j < length (m .variables) → Equation (gates-from here there) (variable-at (m .variables) j) (bits-from here there j) 0 1
 
       -- a pass keeps them
       pub passes-kept : (g : Bits) → Passes K m word n back 0 (row-bits rows) g → Kept
@@ -181,7 +181,7 @@ module _ (K : Kind) (m : Tables) (wired : Wired m) (word : Word (K .Value)) (row
       walked-more kept sized noted =
           record {
             sized = sized;
-            shows = subst (λ k. Shows K (m .gates) word rows (cond (ltb k n) k back) there) (sym (add-one i)) next;
+            shows = subst (λ k. MomentAt K (m .gates) word rows (cond (ltb k n) k back) there) (sym (add-one i)) next;
             equations = λ g ev t h j hj.
                 elim (decLt t i) [
                   | yes less ↦ walked .equations g ev t less j hj
@@ -236,13 +236,13 @@ module _ (K : Kind) (m : Tables) (wired : Wired m) {V : Type 0} (means : V → K
   pub accepted-passes : Accepted K means m w rows back → (g : Bits) × Passes K m (meant means w) (length rows) back 0 (row-bits rows) g
   accepted-passes a = check-decides K m wired (meant means w) named (length rows) back turns (row-bits rows) 0 .0 a
 
-  module _ (first : Moment) (shows : Shows K (m .gates) (meant means w) rows 0 first) where
+  module _ (first : Moment) (shows : MomentAt K (m .gates) (meant means w) rows 0 first) where
     pub accepted-root : Accepted K means m w rows back → getD (first .values) (m .root) false ≡ true
     accepted-root a =
         let c = accepted-passes a in
         sym (agrees K m wired (meant means w) (length rows) rows (c .0) (c .1 .gates) 0 (shape .some) first shows (m .root) (wired .root)) ∙ c .1 .root
 
-    pub accepted-starts : Accepted K means m w rows back → (j : ℕ) → j < length (m .variables) → Starts (variable-at (m .variables) j) (bits-of first first j)
+    pub accepted-starts : Accepted K means m w rows back → (j : ℕ) → j < length (m .variables) → Starts (variable-at (m .variables) j) (bits-from first first j)
     accepted-starts a j hj = starts-told K (m .gates) (meant means w) rows first shows (variable-at (m .variables) j) j (accepted-passes a .1 .starts j hj)
 
     module _ (here : Moment) (met : List Bool) (walked : Walked K m (meant means w) rows back (length rows) here met) where
@@ -250,7 +250,7 @@ module _ (K : Kind) (m : Tables) (wired : Wired m) {V : Type 0} (means : V → K
       accepted-met a j hj = let c = accepted-passes a in walked .pairs (c .0) (c .1 .gates) j hj .1 (c .1 .fair j hj)
 
       pub all-accepted : TwoValued K → getD (first .values) (m .root) false ≡ true
-          → ((j : ℕ) → j < length (m .variables) → Starts (variable-at (m .variables) j) (bits-of first first j))
+          → ((j : ℕ) → j < length (m .variables) → Starts (variable-at (m .variables) j) (bits-from first first j))
           → ((j : ℕ) → j < length (m .pairs) → getD met j false ≡ true) → Accepted K means m w rows back
       all-accepted only root starts fair =
           let e = evaluated K only m wired (meant means w) (row-bits rows) (length rows) in

@@ -9,4 +9,4 @@ pub mod Checks
 pub mod Laws
 pub mod Refusals
 pub mod Moments
-pub mod Answers
+pub mod CheckAnswer

@@ -22,18 +22,18 @@ abbrev pub listed : List Bool → Bits
 listed values a t = getD values a false
 
 -- the moment x is row t, with what the gates are there
-pub record Shows (K : Kind) (gates : List Gate) (word : Word (K .Value)) (rows : List ℕ) (t : ℕ) (x : Moment) : Type 0 where
+pub record MomentAt (K : Kind) (gates : List Gate) (word : Word (K .Value)) (rows : List ℕ) (t : ℕ) (x : Moment) : Type 0 where
   pub row : x .row ≡ getD rows t 0
   pub values : (j : ℕ) → j < length gates → Reads K word (row-bits rows) (listed (x .values)) (gate-at gates j) t (getD (x .values) j false)
 
 -- two moments as positions 0 and 1: the bits of the gates, and of a variable
-abbrev pub gates-of : Moment → Moment → Bits
-gates-of x y a zero = getD (x .values) a false
-gates-of x y a (suc t) = getD (y .values) a false
+abbrev pub gates-from : Moment → Moment → Bits
+gates-from x y a zero = getD (x .values) a false
+gates-from x y a (suc t) = getD (y .values) a false
 
-abbrev pub bits-of : Moment → Moment → Bits
-bits-of x y j zero = bit (x .row) j
-bits-of x y j (suc t) = bit (y .row) j
+abbrev pub bits-from : Moment → Moment → Bits
+bits-from x y j zero = bit (x .row) j
+bits-from x y j (suc t) = bit (y .row) j
 
 -- from is 0 or to is 1 in a moment
 abbrev pub is-met : Pair → Moment → Bool

@@ -5,7 +5,7 @@ ghost use lib.ListN.{length};
 ghost use Rattle.std.specs.Orderings.{Decides};
 ghost use Rattle.std.specs.Results.{Cases};
 ghost use Rattle.recording.specs.Tape.{Within};
-ghost use Rattle.machine.specs.Answers.{Accepted, Answer, Shape};
+ghost use Rattle.machine.specs.CheckAnswer.{Accepted, Answer, Shape};
 ghost use Rattle.machine.specs.Checks.{Names, HasGateSignals};
 ghost use Rattle.machine.specs.declared.refusal.CheckRefusal.the-variants.{NoSignal};
 ghost use Rattle.machine.specs.Machines.{tables};

@@ -7,7 +7,7 @@ ghost use Rattle.recording.specs.Tape.{bit};
 ghost use Rattle.recording.specs.Word.{meant};
 ghost use Rattle.machine.specs.Checks.{Names, HasGateSignals};
 ghost use Rattle.machine.specs.Machines.{tables};
-ghost use Rattle.machine.specs.Moments.{Shows, listed};
+ghost use Rattle.machine.specs.Moments.{MomentAt, listed};
 ghost use Rattle.machine.specs.Runs.{Reads};
 ghost use Rattle.machine.specs.Tables.{gate-fits};
 use crate::gate::Gate;
@@ -63,7 +63,7 @@ where
     requires named { ⌜ HasGateSignals (tables (now machine) .gates) (R·Recording .word (now recording) .signals) ⌝ }
     requires inside { ⌜ i < length (now rows) ⌝ }
     requires few { ⌜ length (now rows) ≤ 4352 ⌝ }
-    ensures { λ r. ⌜ Shows (Truth·Truth .kind) (tables (now (machine .entry)) .gates) (meant (Truth·Truth .means) (R·Recording .word (now (recording .entry)))) (now (rows .entry)) i r ⌝ }
+    ensures { λ r. ⌜ MomentAt (Truth·Truth .kind) (tables (now (machine .entry)) .gates) (meant (Truth·Truth .means) (R·Recording .word (now (recording .entry)))) (now (rows .entry)) i r ⌝ }
 {
     let row = rows[i];
     let mut values = [false; 192];

@@ -5,7 +5,7 @@ ghost use Prim.Native.Nat.{ℕ, _<_};
 ghost use lib.ListN.{length, getD};
 ghost use Rattle.std.specs.Orderings.{Decides};
 ghost use Rattle.machine.specs.Machines.{tables};
-ghost use Rattle.machine.specs.Moments.{gates-of, bits-of, is-met};
+ghost use Rattle.machine.specs.Moments.{gates-from, bits-from, is-met};
 ghost use Rattle.machine.specs.Runs.{Starts, Equation};
 ghost use Rattle.machine.specs.Tables.{variable-at, pair-at, variable-fits, pair-fits};
 use crate::evaluation::bit_of;
@@ -17,7 +17,7 @@ use crate::place::Machine;
 // Whether variable j has its start.
 fn starts(variable: Variable, j: usize, first: &Moment) -> bool
     requires { ⌜ j < 64 ⌝ }
-    ensures { λ r. ⌜ Decides r (Starts variable (bits-of (now (first .entry)) (now (first .entry)) j)) ⌝ }
+    ensures { λ r. ⌜ Decides r (Starts variable (bits-from (now (first .entry)) (now (first .entry)) j)) ⌝ }
 {
     match variable {
         Variable::Next(_) | Variable::Until(_, _) => true,
@@ -27,7 +27,7 @@ fn starts(variable: Variable, j: usize, first: &Moment) -> bool
 
 // Whether every variable has its start.
 pub(crate) fn all_start(machine: &Machine, first: &Moment) -> bool
-    ensures { λ r. ⌜ Decides r ((j : ℕ) → j < length (tables (now (machine .entry)) .variables) → Starts (variable-at (tables (now (machine .entry)) .variables) j) (bits-of (now (first .entry)) (now (first .entry)) j)) ⌝ }
+    ensures { λ r. ⌜ Decides r ((j : ℕ) → j < length (tables (now (machine .entry)) .variables) → Starts (variable-at (tables (now (machine .entry)) .variables) j) (bits-from (now (first .entry)) (now (first .entry)) j)) ⌝ }
 {
     for j in 0..machine.variable_count {
         if !starts(machine.variables[j], j, first) {
@@ -41,7 +41,7 @@ pub(crate) fn all_start(machine: &Machine, first: &Moment) -> bool
 fn keeps(variable: Variable, j: usize, here: &Moment, there: &Moment) -> bool
     requires names { ⌜ variable-fits 192 variable ≡ true ⌝ }
     requires bit { ⌜ j < 64 ⌝ }
-    ensures { λ r. ⌜ Decides r (Equation (gates-of (now (here .entry)) (now (there .entry))) variable (bits-of (now (here .entry)) (now (there .entry)) j) 0 1) ⌝ }
+    ensures { λ r. ⌜ Decides r (Equation (gates-from (now (here .entry)) (now (there .entry))) variable (bits-from (now (here .entry)) (now (there .entry)) j) 0 1) ⌝ }
 {
     match variable {
         Variable::Next(a) => bit_of(here.row, j) == there.values[a as usize],
@@ -55,7 +55,7 @@ fn keeps(variable: Variable, j: usize, here: &Moment, there: &Moment) -> bool
 
 // Whether every variable keeps its equation.
 pub(crate) fn all_keep(machine: &Machine, here: &Moment, there: &Moment) -> bool
-    ensures { λ r. ⌜ Decides r ((j : ℕ) → j < length (tables (now (machine .entry)) .variables) → Equation (gates-of (now (here .entry)) (now (there .entry))) (variable-at (tables (now (machine .entry)) .variables) j) (bits-of (now (here .entry)) (now (there .entry)) j) 0 1) ⌝ }
+    ensures { λ r. ⌜ Decides r ((j : ℕ) → j < length (tables (now (machine .entry)) .variables) → Equation (gates-from (now (here .entry)) (now (there .entry))) (variable-at (tables (now (machine .entry)) .variables) j) (bits-from (now (here .entry)) (now (there .entry)) j) 0 1) ⌝ }
 {
     for j in 0..machine.variable_count {
         if !keeps(machine.variables[j], j, here, there) {

@@ -5,7 +5,7 @@ use native.Mathlib.Omega.{arith}
 use lib.ListN.{length, getD, replicate}
 use Rattle.recording.specs.Word.{meant}
 use Rattle.machine.specs.Machines.{tables}
-use Rattle.machine.specs.Moments.{Shows}
+use Rattle.machine.specs.Moments.{MomentAt}
 use Rattle.machine.specs.Runs.{after}
 use Rattle.machine.proofs.Endless.{after-in}
 use Rattle.machine.proofs.Evaluating.{wired-of}
@@ -47,7 +47,7 @@ loop-i-again g c =
     let back = c .args .back in
     let there = c .moment-of-there .result in
     walked-more K (tables m) (wired-of m) word rows back (c .pre .shape .turns .inside) (c .loop-i .i) (c .loop-i-test .taken) (c .loop-i .here) there (c .loop-i .met) (c .note-met .last .met) (c .loop-i .inv)
-    (subst (λ t. Shows K (tables m .gates) word rows t there) (c .after-row-next .ensures) (c .moment-of-there .ensures))
+    (subst (λ t. MomentAt K (tables m .gates) word rows t there) (c .after-row-next .ensures) (c .moment-of-there .ensures))
     (after-in (length rows) back (c .pre .shape .turns .inside) (c .loop-i .i))
     (c .if-not-all-keep .ensures tt .0 refl)
     (c .note-met .array-long)
@@ -67,7 +67,7 @@ returns-then-not-all-keep g c =
           let p = accepted-passes K (tables m) (wired-of m) means w (c .pre .named) rows back (c .pre .shape) a in
           c .if-not-all-keep .ensures tt .1
           (passes-kept K (tables m) (wired-of m) (meant means w) rows back (c .pre .shape .turns .inside) (c .loop-i .i) (c .loop-i-test .taken) (c .loop-i .here) there (c .loop-i .met) (c .note-met .last .met) (c .loop-i .inv)
-          (subst (λ t. Shows K (tables m .gates) (meant means w) rows t there) (c .after-row-next .ensures) (c .moment-of-there .ensures))
+          (subst (λ t. MomentAt K (tables m .gates) (meant means w) rows t there) (c .after-row-next .ensures) (c .moment-of-there .ensures))
           (after-in (length rows) back (c .pre .shape .turns .inside) (c .loop-i .i))
           (p .0) (p .1)),
     )

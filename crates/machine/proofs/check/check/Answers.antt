@@ -3,7 +3,7 @@ use mathlib.Core.Bool.{false≢true}
 use Rattle.std.proofs.shelf.Results.{err-from-errBy}
 use Rattle.std.specs.declared.result.Result.the-variants.{Err}
 use Rattle.recording.specs.Tape.{Within}
-use Rattle.machine.specs.Answers.{Answer}
+use Rattle.machine.specs.CheckAnswer.{Answer}
 use Rattle.machine.specs.Checks.{HasGateSignals}
 use Rattle.machine.specs.Machines.{tables}
 use Rattle.machine.proofs.Evaluating.{variables-counted}

@@ -2,7 +2,7 @@ use mathlib.Core.Path.{refl, sym, subst}
 use mathlib.Core.Bool.{false≢true}
 use borrow.Author.Count.{below-more}
 use native.Mathlib.Omega.{arith}
-use Rattle.machine.specs.Moments.{gates-of, bits-of}
+use Rattle.machine.specs.Moments.{gates-from, bits-from}
 use Rattle.machine.specs.Runs.{Equation}
 use Rattle.machine.specs.Tables.{variable-at}
 use Rattle.machine.proofs.Evaluating.{variable-same, variables-counted, variable-more}
@@ -24,7 +24,7 @@ loop-j-again c =
     let y = c .args .there .now in
     let j = c .loop-j .j in
     below-more _ _ (c .loop-j .inv)
-    (subst (λ z. Equation (gates-of x y) z (bits-of x y j) 0 1) (sym (variable-same m j (omega arith))) (c .if-not-keeps .ensures tt .0 refl))
+    (subst (λ z. Equation (gates-from x y) z (bits-from x y j) 0 1) (sym (variable-same m j (omega arith))) (c .if-not-keeps .ensures tt .0 refl))
 
 pub returns-then-not-keeps : need.returns-then-not-keeps
 returns-then-not-keeps c =
@@ -35,7 +35,7 @@ returns-then-not-keeps c =
       λ e. absurd (false≢true e),
       λ all.
           c .if-not-keeps .ensures tt .1
-          (subst (λ z. Equation (gates-of x y) z (bits-of x y j) 0 1) (variable-same m j (omega arith)) (all j (omega (arith, variables-counted m)))),
+          (subst (λ z. Equation (gates-from x y) z (bits-from x y j) 0 1) (variable-same m j (omega arith)) (all j (omega (arith, variables-counted m)))),
     )
 
 pub returns : need.returns
