@@ -77,9 +77,9 @@ fn meets(pair: Pair, here: &Moment) -> bool
 pub(crate) fn note_met(machine: &Machine, here: &Moment, counts: bool, met: &mut [bool; 64])
     ensures { λ _. ⌜ ((j : ℕ) → j < length (tables (now (machine .entry)) .pairs) → getD (now (met .exit)) j false ≡ (getD (now (met .entry)) j false || (counts && is-met (pair-at (tables (now (machine .entry)) .pairs) j) (now (here .entry))))) ⌝ }
 {
-    for j in 0..machine.pair_count {
-        let is_met = met[j] | (counts & meets(machine.pairs[j], here));
-        met[j] = is_met;
+    for k in 0..machine.pair_count {
+        let is_met = met[k] | (counts & meets(machine.pairs[k], here));
+        met[k] = is_met;
     }
 }
 

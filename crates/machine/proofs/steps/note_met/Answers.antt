@@ -14,22 +14,22 @@ use Rattle.machine.proofs.steps.note_met.Needs as need
 pub meets-requires : need.meets-requires
 meets-requires c κs =
     let m = c .args .machine .now in
-    pair-more (pair-at (m .pairs) (c .loop-j .j)) (m .«gate_count») 192 (m .within .0) (m .«pairs_fit» (c .loop-j .j) (omega arith))
+    pair-more (pair-at (m .pairs) (c .loop-k .k)) (m .«gate_count») 192 (m .within .0) (m .«pairs_fit» (c .loop-k .k) (omega arith))
 
-pub loop-j-again : need.loop-j-again
-loop-j-again c =
+pub loop-k-again : need.loop-k-again
+loop-k-again c =
     let m = c .args .machine .now in
     let x = c .args .here .now in
-    let j = c .loop-j .j in
-    let met = c .loop-j .met in
-    let inside : j < length met = omega (arith, c .loop-j .inv .0, m .within .2) in (
-      length-set met j _ ∙ c .loop-j .inv .0,
+    let j = c .loop-k .k in
+    let met = c .loop-k .met in
+    let inside : j < length met = omega (arith, c .loop-k .inv .0, m .within .2) in (
+      length-set met j _ ∙ c .loop-k .inv .0,
       below-more _ _
-          (λ p h. let ne : p ≢ j = omega arith in getD-set-other met j p _ false ne ∙ c .loop-j .inv .1 p h)
+          (λ p h. let ne : p ≢ j = omega arith in getD-set-other met j p _ false ne ∙ c .loop-k .inv .1 p h)
           (getD-set-same met j _ false inside
-          ∙ ap₂ (λ a b. a || (c .args .counts && b)) (c .loop-j .inv .2 j (omega arith)) (c .meets .ensures ∙ ap (λ p. is-met p x) (sym (pair-same m j (omega arith))))),
-      λ p h. let ne : p ≢ j = omega arith in getD-set-other met j p _ false ne ∙ c .loop-j .inv .2 p (omega arith),
+          ∙ ap₂ (λ a b. a || (c .args .counts && b)) (c .loop-k .inv .2 j (omega arith)) (c .meets .ensures ∙ ap (λ p. is-met p x) (sym (pair-same m j (omega arith))))),
+      λ p h. let ne : p ≢ j = omega arith in getD-set-other met j p _ false ne ∙ c .loop-k .inv .2 p (omega arith),
     )
 
 pub returns : need.returns
-returns c = λ j h. c .loop-j .inv .1 j (omega (arith, pairs-counted (c .args .machine .now)))
+returns c = λ j h. c .loop-k .inv .1 j (omega (arith, pairs-counted (c .args .machine .now)))

@@ -7,8 +7,8 @@ use Rattle.machine.specs.Moments.{is-met}
 use Rattle.machine.specs.Tables.{pair-at}
 use Rattle.machine.proofs.steps.note_met.Given as given
 
-abbrev pub Inv-loop-j : given.InvT-loop-j
-Inv-loop-j l =
+abbrev pub Inv-loop-k : given.InvT-loop-k
+Inv-loop-k l =
     (length (l .met) ≡ 64)
-    × ((p : ℕ) → p < l .j → getD (l .met) p false ≡ (getD (l .entry .met) p false || (l .counts && is-met (pair-at (tables (l .machine) .pairs) p) (l .here))))
-    × ((p : ℕ) → l .j ≤ p → getD (l .met) p false ≡ getD (l .entry .met) p false)
+    × ((p : ℕ) → p < l .k → getD (l .met) p false ≡ (getD (l .entry .met) p false || (l .counts && is-met (pair-at (tables (l .machine) .pairs) p) (l .here))))
+    × ((p : ℕ) → l .k ≤ p → getD (l .met) p false ≡ getD (l .entry .met) p false)
