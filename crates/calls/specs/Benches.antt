@@ -1,9 +1,8 @@
--- What the calls on a bench answer, and what they leave.
+-- A new bench, and what making a recording and lending cells answer and leave.
 use Prim.Native.Nat.{ℕ}
-use mathlib.Core.Bool.{Bool, false}
-use mathlib.Core.List.{List, _++_}
+use mathlib.Core.Bool.{false}
 use mathlib.Core.Path.{_≡_}
-use lib.ListN.{length, take, drop, replicate}
+use lib.ListN.{replicate}
 use Rattle.std.specs.Of.Vec.{vec-items}
 use Rattle.std.specs.declared.result.Result.{Result}
 use Rattle.std.specs.declared.result.Result.the-variants.{Ok, Err}
@@ -31,17 +30,18 @@ abbrev pub with-recorded : Recorded → Bench → Bench
 with-recorded r b = record { recorded = r; flags = b .flags; levels = b .levels; lent = b .lent }
 
 -- a recording that is made is the recording from now on; a refused one leaves all as it was
+abbrev pub played : {X E : Type 0} → (X → Recorded) → (E → ℕ) → Result X E → Bench → Answer × Bench
+played kind number (Ok x) b = (answer.Done, with-recorded (kind x) b)
+played kind number (Err e) b = (answer.Refused (number e), b)
+
 abbrev pub taped : Result Tape TapeRefusal → Bench → Answer × Bench
-taped (Ok t) b = (answer.Done, with-recorded (recorded.Plain t) b)
-taped (Err e) b = (answer.Refused (tape-number e), b)
+taped = played recorded.Plain tape-number
 
 abbrev pub gapped : Result GappedTape TapeRefusal → Bench → Answer × Bench
-gapped (Ok t) b = (answer.Done, with-recorded (recorded.Gapped t) b)
-gapped (Err e) b = (answer.Refused (tape-number e), b)
+gapped = played recorded.Gapped tape-number
 
 abbrev pub wheeled : Result Wheel WheelRefusal → Bench → Answer × Bench
-wheeled (Ok w) b = (answer.Done, with-recorded (recorded.Turning w) b)
-wheeled (Err e) b = (answer.Refused (wheel-number e), b)
+wheeled = played recorded.Turning wheel-number
 
 -- so many cells are lent from now on
 abbrev pub lending : ℕ → Bench → Answer × Bench

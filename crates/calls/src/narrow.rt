@@ -12,6 +12,7 @@ pub trait Narrow: Copy {
     // The least number that is past them.
     ghost past: { ℕ };
 
+    // The number that a value is.
     ghost value: { Self → ℕ };
 
     fn narrow(n: u128) -> Option<Self>

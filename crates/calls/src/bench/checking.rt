@@ -52,6 +52,7 @@ where
     }
 }
 
+// Rows and a place of any size.
 fn check_numbers<R: Recording>(
     heap: Global,
     machine: &Machine,
@@ -73,8 +74,8 @@ where
 }
 
 impl Bench {
-    /// Whether the rows are an accepting run of the machine on the recording, with row `back` after the last.
-    pub fn check(
+    // Whether the rows are an accepting run of the machine on the recording, with row `back` after the last.
+    pub(crate) fn check(
         &self,
         heap: Global,
         machine: &Machine,

@@ -1,6 +1,4 @@
 // Judges a sheet on the recording of a bench, with the cells that are lent.
-ghost use Prim.Native.Nat.{_<_};
-ghost use lib.ListN.{length};
 ghost use Rattle.sheet.specs.Sheets.{sealed-lines};
 ghost use Rattle.calls.specs.Judgements.{Judges, OnRecorded, ByForm};
 use crate::answer::Answer;
@@ -61,9 +59,9 @@ impl Bench {
         }
     }
 
-    /// Judges the sheet on the recording: the cells of its kind that are lent then hold what judging leaves in them,
-    /// and all else is as it was.
-    pub fn judge(&mut self, sheet: &Sheet) -> Answer
+    // Judges the sheet on the recording: the cells of its kind that are lent then hold what judging leaves in them, and
+    // all else is as it was.
+    pub(crate) fn judge(&mut self, sheet: &Sheet) -> Answer
         ensures { λ a. ⌜ ByForm (now (sheet .entry)) (now (self .entry)) (now (self .exit)) a ⌝ }
     {
         match sheet {

@@ -1,11 +1,7 @@
 // A new bench, the recordings that are made from the numbers of a script, and the cells that are lent.
-ghost use mathlib.Core.Bool.{false};
 ghost use mathlib.Core.Path.{_≡_};
-ghost use lib.ListN.{replicate};
 ghost use Rattle.std.specs.Vec.{made};
-ghost use Rattle.std.specs.Of.Vec.{vec-items};
 ghost use Rattle.recording.specs.Made.{TapeMade, GappedMade, WheelMade};
-ghost use Rattle.recording.specs.declared.truth.Ternary.the-variants.{No};
 ghost use Rattle.calls.specs.Benches.{Fresh, taped, gapped, wheeled, lending};
 use crate::answer::Answer;
 use crate::bench::Bench;
@@ -23,8 +19,8 @@ use recording::wheel::Wheel;
 use std::alloc::AllocError;
 use std::alloc::Global;
 
-/// The tape of these numbers, or the refusal of what does not fit.
-pub fn tape_of(
+// The tape of these numbers, or the refusal of what does not fit.
+pub(crate) fn tape_of(
     heap: Global,
     sizes: TapeSizes,
     masks: &[u128],
@@ -42,8 +38,8 @@ pub fn tape_of(
     ))
 }
 
-/// The gapped tape of these numbers, or the refusal of what does not fit.
-pub fn gapped_of(
+// The gapped tape of these numbers, or the refusal of what does not fit.
+pub(crate) fn gapped_of(
     heap: Global,
     sizes: TapeSizes,
     masks: &[u128],
@@ -66,8 +62,8 @@ pub fn gapped_of(
     ))
 }
 
-/// The wheel of these numbers, or the refusal of numbers out of range.
-pub fn wheel_of(teeth: u128, gap: u128, start: u128) -> Result<Wheel, WheelRefusal>
+// The wheel of these numbers, or the refusal of numbers out of range.
+pub(crate) fn wheel_of(teeth: u128, gap: u128, start: u128) -> Result<Wheel, WheelRefusal>
     ensures { λ r. ⌜ WheelMade teeth gap start r ⌝ }
 {
     Wheel::new(size(teeth), size(gap), size(start))
@@ -88,8 +84,8 @@ impl Bench {
         })
     }
 
-    /// The recording is this tape from now on; one that is not made leaves the recording that was there.
-    pub fn put_tape(&mut self, made: Result<Tape, TapeRefusal>) -> Answer
+    // The recording is this tape from now on; one that is not made leaves the recording that was there.
+    pub(crate) fn put_tape(&mut self, made: Result<Tape, TapeRefusal>) -> Answer
         ensures { λ a. ⌜ (a, now (self .exit)) ≡ taped made (now (self .entry)) ⌝ }
     {
         match made {
@@ -101,8 +97,8 @@ impl Bench {
         }
     }
 
-    /// The same for a gapped tape.
-    pub fn put_gapped(&mut self, made: Result<GappedTape, TapeRefusal>) -> Answer
+    // The same for a gapped tape.
+    pub(crate) fn put_gapped(&mut self, made: Result<GappedTape, TapeRefusal>) -> Answer
         ensures { λ a. ⌜ (a, now (self .exit)) ≡ gapped made (now (self .entry)) ⌝ }
     {
         match made {
@@ -114,8 +110,8 @@ impl Bench {
         }
     }
 
-    /// The same for a wheel.
-    pub fn put_wheel(&mut self, made: Result<Wheel, WheelRefusal>) -> Answer
+    // The same for a wheel.
+    pub(crate) fn put_wheel(&mut self, made: Result<Wheel, WheelRefusal>) -> Answer
         ensures { λ a. ⌜ (a, now (self .exit)) ≡ wheeled made (now (self .entry)) ⌝ }
     {
         match made {
@@ -127,8 +123,8 @@ impl Bench {
         }
     }
 
-    /// So many cells are lent from now on.
-    pub fn lend(&mut self, count: u128) -> Answer
+    // So many cells are lent from now on.
+    pub(crate) fn lend(&mut self, count: u128) -> Answer
         ensures { λ a. ⌜ (a, now (self .exit)) ≡ lending count (now (self .entry)) ⌝ }
     {
         self.lent = count;
