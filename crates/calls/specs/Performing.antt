@@ -14,8 +14,8 @@ use Rattle.calls.specs.declared.answer.Answer.{Answer}
 use Rattle.calls.specs.declared.answer.Answer.the-variants as answer
 use Rattle.calls.specs.declared.answer.Form.{Form}
 use Rattle.calls.specs.declared.answer.Form.the-variants as form
-use Rattle.calls.specs.declared.call.Call.{Call}
-use Rattle.calls.specs.declared.call.Call.the-variants as call
+use Rattle.calls.specs.declared.call.SheetCall.{SheetCall}
+use Rattle.calls.specs.declared.call.SheetCall.the-variants as call
 use Rattle.calls.specs.declared.session.Sheet.{Sheet}
 use Rattle.calls.specs.declared.session.Sheet.the-variants.{Open, Shut}
 
@@ -42,25 +42,25 @@ abbrev pub made : Ledger → ledger.Call → Tables → Outcome
 made l c m = record { answer = told (fed l c .0); sheet = fed l c .1; machine = m }
 
 -- a draft is written, struck and sealed; a sealed sheet is reopened and translated
-abbrev pub on-draft : Ledger → Call → Tables → Outcome
+abbrev pub on-draft : Ledger → SheetCall → Tables → Outcome
 on-draft l (call.Write c a b) m = made l (ledger.Write c a b) m
 on-draft l call.Strike m = made l ledger.Strike m
 on-draft l call.Seal m = made l ledger.Seal m
 on-draft l call.Reopen m = turned-away form.Draft l m
 on-draft l call.Translate m = turned-away form.Draft l m
 
-abbrev pub on-sealed : Ledger → Call → Tables → Outcome
+abbrev pub on-sealed : Ledger → SheetCall → Tables → Outcome
 on-sealed l (call.Write c a b) m = turned-away form.Sealed l m
 on-sealed l call.Strike m = turned-away form.Sealed l m
 on-sealed l call.Seal m = turned-away form.Sealed l m
 on-sealed l call.Reopen m = made l ledger.Reopen m
 on-sealed l call.Translate m = record { answer = answer.Tables; sheet = l; machine = translate (l .lines) }
 
-abbrev pub by-form : ledger.Form → Ledger → Call → Tables → Outcome
+abbrev pub by-form : ledger.Form → Ledger → SheetCall → Tables → Outcome
 by-form ledger.Drafted = on-draft
 by-form ledger.Shut = on-sealed
 
-abbrev pub performed : Ledger → Call → Tables → Outcome
+abbrev pub performed : Ledger → SheetCall → Tables → Outcome
 performed l = by-form (l .form) l
 
 abbrev pub outcome : Answer → Sheet → Tables → Outcome

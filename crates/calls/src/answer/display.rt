@@ -4,6 +4,10 @@ ghost use Rattle.calls.specs.Telling.{verb-text, form-text, answer-text, told-
 use crate::answer::Answer;
 use crate::answer::Form;
 use crate::answer::Told;
+use crate::answer::truth::AmongThree;
+use crate::answer::truth::BoolAmongThree;
+use crate::answer::truth::Spelled;
+use crate::answer::truth::SpelledDisplay;
 use crate::call::Verb;
 use std::fmt;
 
@@ -17,6 +21,12 @@ pub impl fmt::Display for Verb as VerbDisplay {
             Verb::Seal => write!(f, "seal"),
             Verb::Reopen => write!(f, "reopen"),
             Verb::Translate => write!(f, "translate"),
+            Verb::Tape => write!(f, "tape"),
+            Verb::Gapped => write!(f, "gapped"),
+            Verb::Wheel => write!(f, "wheel"),
+            Verb::Cells => write!(f, "cells"),
+            Verb::Judge => write!(f, "judge"),
+            Verb::Check => write!(f, "check"),
         }
     }
 }
@@ -41,7 +51,17 @@ pub impl fmt::Display for Answer as AnswerDisplay {
             Answer::Done => write!(f, " done"),
             Answer::Refused(number) => write!(f, " refused {number}"),
             Answer::NotWhile(form) => write!(f, " not while {form}"),
+            Answer::NoRecording => write!(f, " no recording"),
+            Answer::NotTwoValued => write!(f, " not two-valued"),
             Answer::Tables => Ok(()),
+            Answer::Values(judged) => {
+                let verdict = Spelled(judged.verdict);
+                write!(f, " {verdict}")
+            }
+            Answer::Accepting(is) => {
+                let is = Spelled(is.as_ternary());
+                write!(f, " {is}")
+            }
         }
     }
 }

@@ -7,7 +7,7 @@ ghost use Rattle.machine.specs.Tables.{fresh};
 ghost use Rattle.calls.specs.Performing.{ledger-of, performed, outcome};
 use crate::answer::Answer;
 use crate::answer::Form;
-use crate::call::Call;
+use crate::call::SheetCall;
 use crate::session::Sheet;
 use machine::place::Machine;
 use machine::translator::translate;
@@ -21,11 +21,11 @@ pub struct Stepped {
     pub answer: Answer,
 }
 
-fn on_draft(mut draft: Draft, call: Call, machine: &mut Machine) -> Stepped
+fn on_draft(mut draft: Draft, call: SheetCall, machine: &mut Machine) -> Stepped
     ensures { λ r. ⌜ outcome (r .answer) (r .sheet) (tables (now (machine .exit))) ≡ performed (ledger-of (Sheet.Open draft)) call (tables (now (machine .entry))) ⌝ }
 {
     match call {
-        Call::Write(code, left, right) => {
+        SheetCall::Write(code, left, right) => {
             let answer = match draft.write(code, left, right) {
                 Ok(number) => Answer::Line(number),
                 Err(refusal) => Answer::Refused(refusal.number()),
@@ -35,7 +35,7 @@ fn on_draft(mut draft: Draft, call: Call, machine: &mut Machine) -> Stepped
                 answer,
             }
         }
-        Call::Strike => {
+        SheetCall::Strike => {
             let answer = match draft.strike() {
                 Ok(()) => Answer::Done,
                 Err(refusal) => Answer::Refused(refusal.number()),
@@ -45,7 +45,7 @@ fn on_draft(mut draft: Draft, call: Call, machine: &mut Machine) -> Stepped
                 answer,
             }
         }
-        Call::Seal => match draft.seal() {
+        SheetCall::Seal => match draft.seal() {
             Ok(sealed) => Stepped {
                 sheet: Sheet::Shut(sealed),
                 answer: Answer::Done,
@@ -55,29 +55,29 @@ fn on_draft(mut draft: Draft, call: Call, machine: &mut Machine) -> Stepped
                 sheet: Sheet::Open(back.draft),
             },
         },
-        Call::Reopen | Call::Translate => Stepped {
+        SheetCall::Reopen | SheetCall::Translate => Stepped {
             sheet: Sheet::Open(draft),
             answer: Answer::NotWhile(Form::Draft),
         },
     }
 }
 
-fn on_sealed(sealed: Sealed, call: Call, machine: &mut Machine) -> Stepped
+fn on_sealed(sealed: Sealed, call: SheetCall, machine: &mut Machine) -> Stepped
     ensures { λ r. ⌜ outcome (r .answer) (r .sheet) (tables (now (machine .exit))) ≡ performed (ledger-of (Sheet.Shut sealed)) call (tables (now (machine .entry))) ⌝ }
 {
     match call {
-        Call::Reopen => Stepped {
+        SheetCall::Reopen => Stepped {
             sheet: Sheet::Open(sealed.reopen()),
             answer: Answer::Done,
         },
-        Call::Translate => {
+        SheetCall::Translate => {
             translate(&sealed, machine);
             Stepped {
                 sheet: Sheet::Shut(sealed),
                 answer: Answer::Tables,
             }
         }
-        Call::Write(_, _, _) | Call::Strike | Call::Seal => Stepped {
+        SheetCall::Write(_, _, _) | SheetCall::Strike | SheetCall::Seal => Stepped {
             sheet: Sheet::Shut(sealed),
             answer: Answer::NotWhile(Form::Sealed),
         },
@@ -85,7 +85,7 @@ fn on_sealed(sealed: Sealed, call: Call, machine: &mut Machine) -> Stepped
 }
 
 /// Performs one call on the sheet; only translating touches the machine place.
-pub fn perform(sheet: Sheet, call: Call, machine: &mut Machine) -> Stepped
+pub fn perform(sheet: Sheet, call: SheetCall, machine: &mut Machine) -> Stepped
     ensures { λ r. ⌜ outcome (r .answer) (r .sheet) (tables (now (machine .exit))) ≡ performed (ledger-of sheet) call (tables (now (machine .entry))) ⌝ }
 {
     match sheet {
