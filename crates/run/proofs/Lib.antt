@@ -1,0 +1,3 @@
+pub mod RowBits
+pub mod Filling
+pub mod Outcome
