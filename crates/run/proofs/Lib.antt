@@ -1,3 +1,5 @@
 pub mod RowBits
 pub mod Filling
 pub mod Outcome
+pub mod Numbered
+pub mod Keeping

@@ -1,5 +1,11 @@
-// Writing out the run of a sealed sheet on a two-valued recording.
+// Writing out the run of a sealed sheet on a two-valued recording; and the calls on a sheet, one after another, with all
+// that holds of them.
+pub mod answer;
 mod bits;
+pub mod call;
+pub mod either;
+mod forms;
 pub mod refusal;
 mod rows;
+pub mod step;
 pub mod writing;
