@@ -3,3 +3,4 @@ pub mod Filling
 pub mod Outcome
 pub mod Numbered
 pub mod Keeping
+pub mod Going

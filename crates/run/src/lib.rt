@@ -5,6 +5,7 @@ mod bits;
 pub mod call;
 pub mod either;
 mod forms;
+pub mod history;
 pub mod refusal;
 mod rows;
 pub mod step;
