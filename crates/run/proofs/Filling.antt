@@ -61,15 +61,15 @@ module _ (lines : List Line) (signs : List Signs) (signed : SignsOf lines signs)
               shows = λ d j hj u one.
                   elim (below-suc j k (subst (λ n. j < n) (add-one k) hj)) [
                     | inl a ↦
-                      let lower : names lines j < name =
-                          omega (arith, total-le (variable-count (line lines) (length lines) (rule-of lines)) j k a, ap₂ (λ v n. cond v n 0) u one, named) in
-                      subst (λ q. (q ≡ true) ↔ (shown K (line lines j) (in-cells K means lines cells d j) t ≡ K .Yes))
-                      (sym (bit-lower name row (names lines j) b lower)) (packed .shows d j a u one)
+                        let lower : names lines j < name =
+                        omega (arith, total-le (variable-count (line lines) (length lines) (rule-of lines)) j k a, ap₂ (λ v n. cond v n 0) u one, named) in
+                        subst (λ q. (q ≡ true) ↔ (shown K (line lines j) (in-cells K means lines cells d j) t ≡ K .Yes))
+                        (sym (bit-lower name row (names lines j) b lower)) (packed .shows d j a u one)
                     | inr e ↦
-                      subst (λ i. (bit (row + cond b (2 ^ name) 0) (names lines i) ≡ true) ↔ (shown K (line lines i) (in-cells K means lines cells d i) t ≡ K .Yes))
-                      (sym e)
-                      (subst (λ q. (q ≡ true) ↔ (shown K (line lines k) (in-cells K means lines cells d k) t ≡ K .Yes))
-                      (sym (ap (bit (row + cond b (2 ^ name) 0)) (sym named) ∙ bit-here name row b small)) (tells d))
+                        subst (λ i. (bit (row + cond b (2 ^ name) 0) (names lines i) ≡ true) ↔ (shown K (line lines i) (in-cells K means lines cells d i) t ≡ K .Yes))
+                        (sym e)
+                        (subst (λ q. (q ≡ true) ↔ (shown K (line lines k) (in-cells K means lines cells d k) t ≡ K .Yes))
+                        (sym (ap (bit (row + cond b (2 ^ name) 0)) (sym named) ∙ bit-here name row b small)) (tells d))
                   ];
               below = subst (λ n. row + cond b (2 ^ name) 0 < 2 ^ n) next (below-more name row b small);
             },
@@ -102,7 +102,7 @@ module _ (K : Kind) {V : Type 0} (means : V → K .Value) (lines : List Line) (c
             elim (below-suc s t (subst (λ n. s < n) (add-one t) hs)) [
               | inl a ↦ subst (Packed K means lines cells (length lines) s) (sym (getD-set-other rows t s row 0 (λ e. omega arith))) (so-far .rows s a)
               | inr e ↦ subst (λ i. Packed K means lines cells (length lines) i (getD (set rows t row) i 0)) (sym e)
-                (subst (Packed K means lines cells (length lines) t) (sym (getD-set-same rows t row 0 inside)) here)
+                  (subst (Packed K means lines cells (length lines) t) (sym (getD-set-same rows t row 0 inside)) here)
             ];
         further = λ s hs. getD-set-other rows t s row 0 (λ e. omega arith) ∙ so-far .further s (omega arith);
       }

@@ -49,14 +49,20 @@ pub(crate) fn on_draft<V, W>(mut draft: Draft, call: Call) -> Stepped<V, W>
             }
         }
         Call::Seal => match draft.seal() {
-            Ok(sealed) => Stepped {
-                sheet: Sheet::Shut(sealed),
-                answer: Answer::Done,
-            },
-            Err(back) => Stepped {
-                answer: Answer::Refused(back.refusal.number()),
-                sheet: Sheet::Open(back.draft),
-            },
+            Ok(sealed) => {
+                let sheet = Sheet::Shut(sealed);
+                Stepped {
+                    sheet,
+                    answer: Answer::Done,
+                }
+            }
+            Err(back) => {
+                let answer = Answer::Refused(back.refusal.number());
+                Stepped {
+                    sheet: Sheet::Open(back.draft),
+                    answer,
+                }
+            }
         },
         Call::Reopen | Call::Translate | Call::Judge(_) | Call::WriteOut(_) => Stepped {
             sheet: Sheet::Open(draft),

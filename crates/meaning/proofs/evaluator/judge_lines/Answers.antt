@@ -18,7 +18,7 @@ fill-line-requires g c κs =
     let w = g .R·Recording .word (c .args .recording .now) in
     let e = c .in-Continue-extent .ensures tt in
     let roomy : Room (c .args .cells .now) (length (c .args .lines .now)) (c .in-Continue-extent .extent .samples) =
-        room (c .args .cells .now) (length (c .args .lines .now)) _ (subst (λ m. length (c .args .lines .now) * m ≤ length (c .args .cells .now)) (sym (e .samples)) (e .room)) in
+    room (c .args .cells .now) (length (c .args .lines .now)) _ (subst (λ m. length (c .args .lines .now) * m ≤ length (c .args .cells .now)) (sym (e .samples)) (e .room)) in
     record {
       room = λ t k ht hk. omega (arith, roomy t k ht hk, c .loop-k .kept .cells);
       below = c .loop-k-test .taken;

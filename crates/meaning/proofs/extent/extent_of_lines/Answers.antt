@@ -14,12 +14,12 @@ returns g c =
     let lines = c .args .lines .now in
     let one : suc (length lines - 1) ≡ length lines = omega (arith, c .pre .some) in
     let most : pasts (line lines) (length lines) ≤ length lines - 1 =
-        subst (λ n. pasts (line lines) n ≤ length lines - 1) one (pasts-below (line lines) (c .pre .sheet 0 (c .pre .some)) (length lines - 1)) in
+    subst (λ n. pasts (line lines) n ≤ length lines - 1) one (pasts-below (line lines) (c .pre .sheet 0 (c .pre .some)) (length lines - 1)) in
     let few-back : c .count-back .result ≤ 63 = omega (arith, most, c .count-back .ensures .is, c .pre .few) in
     let es : c .stem .result + c .count-back .result * c .cycle-cycle .result ≡ steady lines w =
-        ap₂ _+_ (c .stem .ensures) (ap₂ _*_ (c .count-back .ensures .is) (c .cycle-cycle .ensures)) in
+    ap₂ _+_ (c .stem .ensures) (ap₂ _*_ (c .count-back .ensures .is) (c .cycle-cycle .ensures)) in
     let en : c .stem .result + c .count-back .result * c .cycle-cycle .result + c .cycle-cycle .result ≡ horizon lines w =
-        ap₂ _+_ es (c .cycle-cycle .ensures) in
+    ap₂ _+_ es (c .cycle-cycle .ensures) in
     record {
       has-signals = c .in-Continue-ask-all .ensures tt;
       room = subst (λ m. length lines * m ≤ c .args .cells) en (c .if-cells-lines .left);
