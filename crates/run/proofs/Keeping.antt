@@ -13,8 +13,8 @@ use Rattle.sheet.proofs.Front.{length-lines, draft-sheet}
 use Rattle.meaning.proofs.Build.{exists}
 use Rattle.machine.proofs.Theorems.{the-values, exact-law, written-law, filling-law}
 use Rattle.machine.proofs.Wiring.{sound}
-use Rattle.run.specs.declared.either.Sheet as either
-use Rattle.run.specs.declared.either.Sheet.the-variants.{Open, Shut}
+use Rattle.run.specs.declared.form.Sheet as either
+use Rattle.run.specs.declared.form.Sheet.the-variants.{Open, Shut}
 use Rattle.run.specs.Histories.{ledger-of}
 use Rattle.run.specs.Law.{Law, WhileSealed}
 

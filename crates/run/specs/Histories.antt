@@ -9,8 +9,8 @@ use Rattle.sheet.specs.Ledger.{Ledger, Form, Drafted, Shut, fed}
 use Rattle.sheet.specs.Sheets.{drafted, shut}
 use Rattle.run.specs.declared.call.Call.{Call}
 use Rattle.run.specs.declared.call.Call.the-variants.{Write, Strike, Seal, Reopen, Translate, Judge, WriteOut}
-use Rattle.run.specs.declared.either.Sheet.{Sheet}
-use Rattle.run.specs.declared.either.Sheet.the-variants as sheet
+use Rattle.run.specs.declared.form.Sheet.{Sheet}
+use Rattle.run.specs.declared.form.Sheet.the-variants as sheet
 
 -- the lines and the form that a sheet has
 abbrev pub ledger-of : Sheet → Ledger

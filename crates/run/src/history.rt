@@ -8,7 +8,7 @@ ghost use Rattle.run.specs.Law.{Throughout};
 ghost use Rattle.run.specs.Story.{heard, lent, Story};
 use crate::answer::Answer;
 use crate::call::Call;
-use crate::either::Sheet;
+use crate::form::Sheet;
 use crate::step::perform;
 use machine::place::Machine;
 use recording::recording::Recording;

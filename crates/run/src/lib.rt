@@ -1,10 +1,10 @@
-// Writing out the run of a sealed sheet on a two-valued recording; and the calls on a sheet, one after another, with all
-// that holds of them.
+// Writing out the run of a sealed sheet on a two-valued recording; and calls on a sheet, one after another, with all that
+// holds of them.
 pub mod answer;
 mod bits;
+mod by_form;
 pub mod call;
-pub mod either;
-mod forms;
+pub mod form;
 pub mod history;
 pub mod refusal;
 mod rows;

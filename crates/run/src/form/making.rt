@@ -2,7 +2,7 @@
 ghost use mathlib.Core.Path.{_≡_};
 ghost use Rattle.sheet.specs.Ledger.{start};
 ghost use Rattle.run.specs.Histories.{ledger-of};
-use crate::either::Sheet;
+use crate::form::Sheet;
 use sheet::draft::Draft;
 
 impl Sheet {

@@ -3,7 +3,7 @@ use Prim.Native.Nat.{ℕ}
 use Rattle.std.specs.declared.result.Result.the-variants.{Ok, Err}
 use Rattle.run.specs.declared.answer.Answer.the-variants.{Refused}
 use Rattle.run.proofs.Numbered.{on-item, on-none}
-use Rattle.run.proofs.forms.judge_number.Needs as need
+use Rattle.run.proofs.by_form.judge_number.Needs as need
 
 pub returns-then-number-judged : need.returns-then-number-judged
 returns-then-number-judged g c machine bits rows =

@@ -11,7 +11,7 @@ ghost use Rattle.run.specs.Story.{draft-says, heard, lent, JudgesNumber, Write
 use crate::answer::Answer;
 use crate::answer::Form;
 use crate::call::Call;
-use crate::either::Sheet;
+use crate::form::Sheet;
 use crate::step::Stepped;
 use crate::writing::write_out;
 use machine::place::Machine;
@@ -91,7 +91,7 @@ fn judge_number<R: Recording, W>(
 
 // Writes out its run on the two-valued recording of this number.
 fn write_number<V, B: Recording>(
-    sheet: &Sealed,
+    sealed: &Sealed,
     number: usize,
     written: &[B],
     bits: &mut [B::Truth],
@@ -99,12 +99,12 @@ fn write_number<V, B: Recording>(
 ) -> Answer<V, B::Truth>
 where
     B::Truth: TwoValued,
-    ensures { λ a. ⌜ ((machine : Tables) (cells : List V) → WritesNumber (heard (Truth·Truth .kind) (Truth·Truth .means) (B·Recording .word) (now (written .entry))) (sealed-lines (now (sheet .entry))) number a (lent machine cells (now (bits .entry)) (now (rows .entry))) (lent machine cells (now (bits .exit)) (now (rows .exit)))) ⌝ }
+    ensures { λ a. ⌜ ((machine : Tables) (cells : List V) → WritesNumber (heard (Truth·Truth .kind) (Truth·Truth .means) (B·Recording .word) (now (written .entry))) (sealed-lines (now (sealed .entry))) number a (lent machine cells (now (bits .entry)) (now (rows .entry))) (lent machine cells (now (bits .exit)) (now (rows .exit)))) ⌝ }
 {
     if number >= written.len() {
         return Answer::NoRecording;
     }
-    match write_out(sheet, &written[number], bits, rows) {
+    match write_out(sealed, &written[number], bits, rows) {
         Ok(run) => Answer::Run(run),
         Err(refusal) => Answer::Refused(refusal.number()),
     }
