@@ -26,15 +26,22 @@ pub record TheValues (K : Kind) (word : Word (K .Value)) (lines : List Line) (f 
   pub valuation : Valuation K word lines f
   pub only : (g : ℕ → Values K) → Valuation K word lines g → (k : ℕ) → k < length lines → (t : ℕ) → g k t ≡ f k t
 
--- every sheet has its one valuation f on every word that has its signals, and with it P holds
+-- on every word that has their signals the lines have their one valuation f, and with it P holds
+abbrev pub OnWords : (K : Kind) → List Line → (Word (K .Value) → (ℕ → Values K) → Type 0) → Type 0
+OnWords K lines P =
+    (word : Word (K .Value)) → HasSignals lines (word .signals) → (f : ℕ → Values K) × TheValues K word lines f × P word f
+
+-- so it is for the lines of every sheet
 abbrev pub Always : (K : Kind) → (List Line → Word (K .Value) → (ℕ → Values K) → Type 0) → Type 0
-Always K P =
-    (lines : List Line) → Sheet lines → 0 < length lines → (word : Word (K .Value)) → HasSignals lines (word .signals)
-    → (f : ℕ → Values K) × TheValues K word lines f × P lines word f
+Always K P = (lines : List Line) → Sheet lines → 0 < length lines → OnWords K lines (P lines)
+
+-- the machine of the lines has an accepting run exactly when the rule holds at sample 0
+abbrev pub Recognises : (K : Kind) → List Line → Word (K .Value) → (ℕ → Values K) → Type 0
+Recognises K lines word f = HasAcceptingRun K (translate lines) word 0 ↔ Holds K f (rule-of lines) 0
 
 -- The translation has an accepting run exactly when the rule holds at sample 0.
 abbrev pub Exact : Kind → Type 0
-Exact K = Always K (λ lines word f. HasAcceptingRun K (translate lines) word 0 ↔ Holds K f (rule-of lines) 0)
+Exact K = Always K (Recognises K)
 
 -- the own gate of line k
 abbrev pub own : List Line → ℕ → ℕ
@@ -77,16 +84,22 @@ Shows K lines f n rows =
     (k : ℕ) → k < length lines → used (line lines) (length lines) (rule-of lines) k ≡ true → memory (line lines k) ≡ 1
     → (t : ℕ) → t < n → (rows (name (line lines) (length lines) (rule-of lines) k) t ≡ true) ↔ (shown K (line lines k) (f k) t ≡ K .Yes)
 
--- There are rows that show the values of the samples judged. Each such, with row `steady` after the last, is a run, and
--- accepting exactly when the rule holds at sample 0.
-abbrev pub WrittenRun : Kind → Type 0
-WrittenRun K =
-    Always K
-    (λ lines word f.
+-- the rows of the samples judged, with row `steady` after the last, as an endless run
+abbrev pub written-out : {V : Type 0} → List Line → Word V → Bits → Bits
+written-out lines word rows = endless (horizon lines word) (steady lines word) rows
+
+-- there are rows that show the values of the samples judged, and each such, written out, is a run of the machine, and
+-- accepting exactly when the rule holds at sample 0
+abbrev pub RunsWritten : (K : Kind) → List Line → Word (K .Value) → (ℕ → Values K) → Type 0
+RunsWritten K lines word f =
     ((rows : Bits) × Shows K lines f (horizon lines word) rows)
     × ((rows : Bits) → Shows K lines f (horizon lines word) rows
-    → Runs K (translate lines) word (endless (horizon lines word) (steady lines word) rows)
-    × (Accepts K (translate lines) word 0 (endless (horizon lines word) (steady lines word) rows) ↔ Holds K f (rule-of lines) 0)))
+    → Runs K (translate lines) word (written-out lines word rows)
+    × (Accepts K (translate lines) word 0 (written-out lines word rows) ↔ Holds K f (rule-of lines) 0))
+
+-- The rows that show the values are a run, and accepting exactly when the rule holds at sample 0.
+abbrev pub WrittenRun : Kind → Type 0
+WrittenRun K = Always K (RunsWritten K)
 
 -- Finitely many rows pass exactly when the endless run that they stand for is accepting.
 abbrev pub CheckDecides : Kind → Type 0
@@ -104,11 +117,13 @@ Settles B Yes q = q ≡ B .Yes
 abbrev pub Fills : (B : Kind) → List Line → Word Ternary → Word (B .Value) → Type 0
 Fills B lines gapped full = (k i : ℕ) → k < length lines → line lines k ≡ Signal i → (t : ℕ) → Settles B (gapped .at i t) (full .at i t)
 
--- Where a three-valued word has yes or no for a line at a sample, so has every word that agrees with it on the named
--- signals wherever they are not lost, whatever its own signal count, stem and cycle.
-abbrev pub Filling : Kind → Type 0
-Filling B =
-    Always three
-    (λ lines gapped f.
+-- where the values f of a three-valued word are yes or no for a line at a sample, so are those of every word that agrees
+-- with it on the named signals wherever they are not lost, whatever its own signal count, stem and cycle
+abbrev pub Settled : (B : Kind) → List Line → Word Ternary → (ℕ → Values three) → Type 0
+Settled B lines gapped f =
     (full : Word (B .Value)) → HasSignals lines (full .signals) → Fills B lines gapped full
-    → (g : ℕ → Values B) × TheValues B full lines g × ((k : ℕ) → k < length lines → (t : ℕ) → Settles B (f k t) (g k t)))
+    → (g : ℕ → Values B) × TheValues B full lines g × ((k : ℕ) → k < length lines → (t : ℕ) → Settles B (f k t) (g k t))
+
+-- What is said in spite of lost values stays as they are filled in.
+abbrev pub Filling : Kind → Type 0
+Filling B = Always three (Settled B)

@@ -3,6 +3,7 @@ pub mod Theorems
 pub mod Logic
 pub mod Refusals
 pub mod Verdict
+pub mod Extents
 pub mod Judging
 pub mod Cells
 pub mod Columns

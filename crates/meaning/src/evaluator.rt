@@ -13,6 +13,7 @@ use crate::backward::fill_previous;
 use crate::backward::fill_since;
 use crate::cells::Grid;
 use crate::cells::read;
+use crate::extent::extent_of_lines;
 use crate::forward::fill_next;
 use crate::forward::fill_until;
 use crate::pointwise::fill_and;
@@ -21,8 +22,6 @@ use crate::pointwise::fill_not;
 use crate::pointwise::fill_or;
 use crate::pointwise::fill_signal;
 use crate::refusal::Refusal;
-use crate::signals::ask_all;
-use crate::signals::count_back;
 use recording::recording::Recording;
 use recording::truth::Truth;
 use sheet::line::Line;
@@ -80,17 +79,12 @@ fn judge_lines<R: Recording>(
     requires few { ⌜ length (now lines) ≤ 64 ⌝ }
     ensures { λ answer. ⌜ Verdict (Truth·Truth .kind) (Truth·Truth .means) (now (lines .entry)) (R·Recording .word (now (recording .entry))) (rule-of (now (lines .entry))) 0 (now (cells .entry)) (now (cells .exit)) answer ⌝ }
 {
-    ask_all(lines, recording)?;
-    let cycle = recording.cycle() as usize;
-    let steady = recording.stem() as usize + count_back(lines) * cycle;
+    let extent = extent_of_lines(lines, recording, cells.len())?;
     let grid = Grid {
         width: lines.len(),
-        samples: steady + cycle,
-        steady,
+        samples: extent.samples,
+        steady: extent.steady,
     };
-    if cells.len() < grid.width * grid.samples {
-        return Err(Refusal::TooFewCells);
-    }
     for k in 0..lines.len() {
         fill_line(cells, grid, k, lines[k], recording);
     }

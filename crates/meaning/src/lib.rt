@@ -2,6 +2,7 @@
 mod backward;
 mod cells;
 pub mod evaluator;
+pub mod extent;
 mod forward;
 pub mod laws;
 mod pointwise;

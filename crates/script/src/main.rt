@@ -1,7 +1,4 @@
 // Reads calls from standard input, one a line, and prints each answer before the next call is made.
-ghost use Prim.Native.Nat.{_≤_};
-ghost use lib.ListN.{length};
-ghost use Rattle.std.specs.Vec.{made};
 use calls::answer::Answer;
 use calls::answer::Told;
 use calls::answer::display::ToldDisplay;
@@ -15,11 +12,10 @@ use calls::parts::part_end;
 use calls::session::Sheet;
 use calls::session::performing::Stepped;
 use calls::session::performing::perform;
+use input::read_input;
 use machine::place::Machine;
 use sheet::draft::Draft;
 use std::error::AnyError;
-use std::io;
-use std::io::Read;
 use tables::printed::Printed;
 use tables::printed::display::PrintedDisplay;
 
@@ -28,23 +24,6 @@ const MOST: usize = 1_048_576;
 
 /// How many cells of each truth kind there are.
 const CELLS: usize = 278_528;
-
-// Reads standard input until it ends or the buffer is full.
-fn read_input(rt: &LibcRuntime, buf: &mut [u8]) -> io::Result<usize>
-    ensures { λ r. ⌜ made r (λ n. n ≤ length (now (buf .exit))) ⌝ }
-{
-    let mut used = 0;
-    let mut input = rt.stdin();
-    while used < buf.len() {
-        let room = buf.len();
-        let n = input.read(&mut buf[used..room])?;
-        if n == 0 {
-            break;
-        }
-        used += n;
-    }
-    Ok(used)
-}
 
 // Prints an answer, and what follows it.
 fn tell(

@@ -4,12 +4,14 @@ ghost use mathlib.Core.Path.{_≡_};
 ghost use Prim.Native.Nat.{ℕ, _<_, _≤_};
 ghost use lib.Dec.{eqb};
 ghost use lib.ListN.{length};
+ghost use Rattle.sheet.specs.Sheets.{sealed-lines};
 ghost use Rattle.sheet.specs.Table.{line as line-at, Lower, Sheet};
 ghost use Rattle.machine.specs.Signs.{Sign};
 ghost use Rattle.machine.specs.Translation.{hands, has, rule-of};
 ghost use Rattle.machine.specs.Working.{told, sign-in};
 use crate::signs::Signs;
 use sheet::line::Line;
+use sheet::sealed::Sealed;
 
 // Line `to` gets more signs beside those that it has.
 fn give(signs: &mut [Signs; 64], to: u8, more: Signs)
@@ -68,4 +70,11 @@ pub(crate) fn signs_of(lines: &[Line]) -> [Signs; 64]
         hand_on(lines[k], own, &mut signs);
     }
     signs
+}
+
+/// The signs of each line of a sealed sheet; past the last there are none.
+pub fn signs_in(sheet: &Sealed) -> [Signs; 64]
+    ensures { λ r. ⌜ ((a : ℕ) (s : Sign) → sign-in r a s ≡ has (line-at (sealed-lines (now (sheet .entry)))) (length (sealed-lines (now (sheet .entry)))) (rule-of (sealed-lines (now (sheet .entry)))) a s) ⌝ }
+{
+    signs_of(sheet.lines())
 }
