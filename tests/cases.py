@@ -662,6 +662,16 @@ def fixed_scripts():
         ("unended", b"seal\nwrite 0 1 0", b"seal: refused 4\nwrite: line 0\n"),
         ("junk", text(JUNK), None),
         (
+            "runs",
+            ask(
+                [CRANK, OIL, U, (10, 2, 0), (5, 3, 0), (1, 2, 0), (3, 3, 4)], "run", "translate",
+                "tape 2 1 2 1 2 0", "rows 0", "cells 0", "run", "tape 3 1 2 1 2 0", "run", "cells 35",
+                "run", "rows 4", "run", "rows 5", "run", "check 3 2 7 7 0 2", "cells 34", "run",
+                "cells 35", "gapped 3 0 1 0 0", "run", "wheel 2 1 0", "run", "reopen", "run",
+            ),
+            None,
+        ),
+        (
             "new machine",
             text(["check 0 0", "wheel 2 1 0", "check 0 0 0", "check 0 0 1", "check 0"]),
             text(["check: no recording", "wheel: done", "check: no", "check: refused 9", "check: refused 8"]),
@@ -850,7 +860,7 @@ def file_lines(rng):
     names = some_names(rng, rng.choice((1, 2, 3)))
     u, v = small_sizes(rng)
     rows = samples(rng, len(names), u + v)
-    kind = rng.randrange(16)
+    kind = rng.choice((*range(16), 8, 9))
     at = rng.randrange(len(rows))
     stem, cycle = str(u), str(v)
     if kind == 0:
@@ -1088,6 +1098,9 @@ def fixed_files():
         (f"{s64})", 16, len(s64)),
         (f"({s63}&crank)", 3, len(s63) + 1),
         (f"({s63}&crank", 13, len(s63) + 7),
+        (f"({s63}>crank", 13, len(s63) + 7),
+        (f"({s63}>crank>", 12, len(s63) + 7),
+        (f"({s63}>crank)", 3, len(s63) + 1),
         (f"({s63}&crank&", 12, len(s63) + 7),
         (f"({s63}&!crank)", 3, len(s63) + 2),
         (f"({s62}>crank)", 3, len(s62) + 1),
@@ -1133,6 +1146,10 @@ def fixed_files():
         cases.append((f"names {' '.join(names)[:40]!r}", data, None if good else refusal(18)))
     for rule, number, place in faults:
         cases.append((f"rule {rule[:40]!r}", ruled(rule), refusal(number, place)))
+    for byte in (0, 9, 13, *range(32, 128), 0xC3, 0xFF):
+        for front, back in ((b"", b""), (b"(oil", b"oil)"), (b"(oil&oil", b""), (b"oil", b"")):
+            rule = front + bytes([byte]) + back
+            cases.append((f"rule {rule!r}", ruled(rule), None))
     for rule in (
         "X(crankWoil)", "!(crankWoil)", "!(crankUoil)", "(crankWoil)", "Fcrank", "Goil", "Ocrank",
         "Hoil", "(crank>oil)", "(crankSoil)", "(crankBoil)", "Ycrank", "Zcrank", "0", "1", "oil",
