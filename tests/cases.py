@@ -666,7 +666,7 @@ def fixed_scripts():
             ask(
                 [CRANK, OIL, U, (10, 2, 0), (5, 3, 0), (1, 2, 0), (3, 3, 4)], "run", "translate",
                 "tape 2 1 2 1 2 0", "rows 0", "cells 0", "run", "tape 3 1 2 1 2 0", "run", "cells 35",
-                "run", "rows 4", "run", "rows 5", "run", "check 3 2 7 7 0 2", "cells 34", "run",
+                "run", "rows 4", "run", "rows 5", "run", "check 3 5 3 2 1 0", "check 3 5 3 2 0 0", "cells 34", "run",
                 "cells 35", "gapped 3 0 1 0 0", "run", "wheel 2 1 0", "run", "reopen", "run",
             ),
             None,
