@@ -65,7 +65,7 @@ module _ (bytes : List ℕ) (f : BenchFile) (form : InForm bytes) (says : Says b
         as-many = front-long (f .masks) (says .size .0);
         lost-as-many = front-long (f .lost) (says .size .1);
         mask = λ t h. front-at (f .masks) t h ∙ says .masks t h;
-        lost-mask = λ t h. front-at (f .lost) t h ∙ says .lost t h
+        lost-mask = λ t h. front-at (f .lost) t h ∙ says .lost t h;
       }
 
   back : (m : List ℕ) → FitsTape ls (front m) → FitsFile f m
@@ -89,7 +89,7 @@ module _ (bytes : List ℕ) (f : BenchFile) (form : InForm bytes) (says : Says b
         lost = front (f .lost);
         sampled = sampled;
         fits = moved t h .0;
-        lost-fits = moved t h .1
+        lost-fits = moved t h .1;
       }
 
   pub word-is : (t : GappedTape) (h : Taped f (Ok t)) → gapped-word t ≡ word bytes (recorded t h)
@@ -104,4 +104,4 @@ module _ (bytes : List ℕ) (f : BenchFile) (form : InForm bytes) (says : Says b
   told t h cells r ls′ fit e (Err x) j =
       subst (λ y. Reports bytes cells (Err y)) (sym (j .2))
       (unjudged (j .0) (recorded t h) r (transport (λ i. Fitting (known-is i) (says .rule i) [] r) fit)
-        (transport (λ i. Unjudged (e i) (word-is t h i) cells (j .0)) (j .1)))
+      (transport (λ i. Unjudged (e i) (word-is t h i) cells (j .0)) (j .1)))

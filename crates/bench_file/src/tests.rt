@@ -1,6 +1,14 @@
 // Which bytes are a bench file, what it says, and where another is refused.
 use crate::file::read_file;
+use crate::outcome::Refused;
+use crate::outcome::RefusedDebug;
+use crate::outcome::RefusedPartialEq;
 use crate::refusal::FileRefusalDebug;
+use crate::report::CELLS;
+use crate::report::report;
+use recording::truth::Ternary;
+use recording::truth::TernaryDebug;
+use recording::truth::TernaryPartialEq;
 use std::test::*;
 
 fn refused(bytes: &[u8], number: u8, place: Option<usize>) -> Result<(), Fail> {
@@ -128,4 +136,59 @@ fn long_files() -> Result<(), Fail> {
     put(&mut over, 0, b"stem cycle rule\n0 1 ");
     put(&mut over, 16380, b"\na\n0\n");
     refused(&over, 19, Some(0))
+}
+
+#[test]
+fn verdicts() -> Result<(), Fail> {
+    let cases: [(&[u8], Ternary); 4] = [
+        (
+            b"stem cycle rule\n1 2 (crankUoil)\ncrank oil\n1 0\n0 1\n0 0\n",
+            Ternary::Yes,
+        ),
+        (
+            b"stem cycle rule\n0 1 (crankUoil)\ncrank oil\n1 0\n",
+            Ternary::No,
+        ),
+        (
+            b"stem cycle rule\n0 1 (crankUoil)\ncrank oil\n? 1\n",
+            Ternary::Yes,
+        ),
+        (
+            b"stem cycle rule\n0 1 (crank|!crank)\ncrank\n?\n",
+            Ternary::Lost,
+        ),
+    ];
+    let mut cells = [Ternary::No; CELLS];
+    for (bytes, verdict) in cases {
+        match report(bytes, &mut cells) {
+            Ok(told) => check_eq(told.verdict, verdict)?,
+            Err(_) => return Err(Fail::new("refused")),
+        }
+    }
+    Ok(())
+}
+
+#[test]
+fn refused_reports() -> Result<(), Fail> {
+    let cases: [(&[u8], u8, Option<usize>); 7] = [
+        (b"stem cycle rule\n0 1 a\na a\n0 0\n", 18, None),
+        (b"stem cycle rule\n0 0 a\na\n", 10, None),
+        (b"stem cycle rule\n1 0 a\na\n1\n", 10, None),
+        (b"stem cycle rule\n0 1 \na\n1\n", 13, Some(0)),
+        (b"stem cycle rule\n0 1 a&b\na b\n1 0\n", 16, Some(1)),
+        (b"stem cycle rule\n0 1 (a&c)\na b\n1 0\n", 14, Some(3)),
+        (
+            b"stem cycle rule\n0 64 (YYYYYYYYYYYYYYYYYYYYYYYYYYYYYYa&YYYYYYYYYYYYYYYYYYYYYYYYYYYYYYa)\na\n1\n1\n1\n1\n1\n1\n1\n1\n1\n1\n1\n1\n1\n1\n1\n1\n1\n1\n1\n1\n1\n1\n1\n1\n1\n1\n1\n1\n1\n1\n1\n1\n1\n1\n1\n1\n1\n1\n1\n1\n1\n1\n1\n1\n1\n1\n1\n1\n1\n1\n1\n1\n1\n1\n1\n1\n1\n1\n1\n1\n1\n1\n1\n1\n",
+            6,
+            None,
+        ),
+    ];
+    let mut cells = [Ternary::No; CELLS];
+    for (bytes, number, place) in cases {
+        match report(bytes, &mut cells) {
+            Ok(_) => return Err(Fail::new("taken")),
+            Err(refused) => check_eq(refused, Refused { number, place })?,
+        }
+    }
+    Ok(())
 }

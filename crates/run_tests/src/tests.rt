@@ -100,12 +100,14 @@ where
     let mut holding = 0;
     for inner in 2..12u8 {
         for outer in 2..12u8 {
-            let sheet = sheet_of(&[
-                [1, 0, 0],
-                [1, oil, 0],
-                [inner, 0, second(inner)],
-                [outer, 2, second(outer)],
-            ])?;
+            let sheet = sheet_of(
+                &[
+                    [1, 0, 0],
+                    [1, oil, 0],
+                    [inner, 0, second(inner)],
+                    [outer, 2, second(outer)],
+                ],
+            )?;
             if checked(&sheet, recording, cells, rows)? && holding < 100 {
                 holding += 1;
             }
@@ -142,14 +144,16 @@ fn runs_say_the_verdict(rt: LibcRuntime) -> Result<(), Fail> {
 // crank, oil, since, an unused next, weak since, until: variables are 0 for since, 1 for weak since and 2 for until.
 #[test]
 fn rows_of_a_run() -> Result<(), Fail> {
-    let sheet = sheet_of(&[
-        [1, 0, 0],
-        [1, 1, 0],
-        [10, 0, 1],
-        [5, 0, 0],
-        [11, 1, 0],
-        [6, 2, 4],
-    ])?;
+    let sheet = sheet_of(
+        &[
+            [1, 0, 0],
+            [1, 1, 0],
+            [10, 0, 1],
+            [5, 0, 0],
+            [11, 1, 0],
+            [6, 2, 4],
+        ],
+    )?;
     // crank at 0 and 2, oil at 1
     let tape = Tape::new(2, 1, 2, &[1, 2, 1])?;
     let mut cells = [true; 44];

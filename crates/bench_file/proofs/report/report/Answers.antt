@@ -33,7 +33,7 @@ returns-in-Err-sheet-of c =
     let e = c .in-Err-sheet-of .ensures tt in
     rw (e .2)
     (faulty (e .0) (recorded b f (o .0) (o .1) (c .in-Ok .tape) (c .in-Ok .ensures tt))
-      (transport (λ i. FirstFault (known-is b f (o .0) (o .1) i) (o .1 .rule i) [] (e .0)) (e .1)))
+    (transport (λ i. FirstFault (known-is b f (o .0) (o .1) i) (o .1 .rule i) [] (e .0)) (e .1)))
 
 pub returns-in-Ok-sheet-of : need.returns-in-Ok-sheet-of
 returns-in-Ok-sheet-of c =
