@@ -41,6 +41,11 @@ module _ (K : Kind) {V : Type 0} (means : V → K .Value) (m : Tables) (w : Word
   refused-alike blank back BadShape told rows size stray = (told .0, λ shape. told .1 (subst (λ n. Shape w n back) size shape))
   refused-alike blank back StrayBit told rows size stray = (told .0, subst (λ n. Shape w n back) (sym size) (told .1), stray)
 
+  -- rows that were checked would have been refused with a stray bit
+  pub refused-stray : (blank : List ℕ) (back : ℕ) (a : Bool) → Answer K means m w blank back (Ok a)
+      → (rows : List ℕ) → length rows ≡ length blank → (Within (length (m .variables)) rows → ⊥) → Answer K means m w rows back (Err StrayBit)
+  refused-stray blank back a told rows size stray = (told .0, subst (λ n. Shape w n back) (sym size) (told .1), stray)
+
   -- a number past 64 bits counts as the largest of them, which no row has either
   pub placed : (rows : List ℕ) (back back′ : ℕ) (r : Result Bool CheckRefusal) → back′ ≡ min back (2 ^ 64 - 1) → Answer K means m w rows back′ r → Answer K means m w rows back r
   placed rows back back′ (Err NoSignal) is told = told

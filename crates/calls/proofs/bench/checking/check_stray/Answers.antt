@@ -1,13 +1,10 @@
-use mathlib.Core.Path.{sym, subst}
-use Rattle.machine.specs.Answers.{Shape}
 use Rattle.machine.specs.Machines.{tables}
-use Rattle.calls.proofs.Straying.{refused-alike}
+use Rattle.calls.proofs.Straying.{refused-alike, refused-stray}
 use Rattle.calls.proofs.bench.checking.check_stray.Needs as need
 
 pub returns-in-Ok : need.returns-in-Ok
 returns-in-Ok g c rows size stray =
-    let told = c .in-Ok .ensures tt in
-    (told .0, subst (λ n. Shape (g .R·Recording .word (c .args .recording .now)) n (c .args .back)) (sym size) (told .1), stray)
+    refused-stray (g .Truth·Truth .kind) (g .Truth·Truth .means) (tables (c .args .machine .now)) (g .R·Recording .word (c .args .recording .now)) (c .args .blank .now) (c .args .back) _ (c .in-Ok .ensures tt) rows size stray
 
 pub returns-in-Err : need.returns-in-Err
 returns-in-Err g c rows size stray =
