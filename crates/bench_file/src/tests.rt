@@ -3,6 +3,7 @@ use crate::file::read_file;
 use crate::outcome::Refused;
 use crate::outcome::RefusedDebug;
 use crate::outcome::RefusedPartialEq;
+use crate::outcome::Report;
 use crate::refusal::FileRefusalDebug;
 use crate::report::CELLS;
 use crate::report::report;
@@ -138,6 +139,11 @@ fn long_files() -> Result<(), Fail> {
     refused(&over, 19, Some(0))
 }
 
+fn reported(bytes: &[u8]) -> Result<Report, Refused> {
+    let mut cells = [Ternary::No; CELLS];
+    report(bytes, &mut cells)
+}
+
 #[test]
 fn verdicts() -> Result<(), Fail> {
     let cases: [(&[u8], Ternary); 4] = [
@@ -158,9 +164,8 @@ fn verdicts() -> Result<(), Fail> {
             Ternary::Lost,
         ),
     ];
-    let mut cells = [Ternary::No; CELLS];
     for (bytes, verdict) in cases {
-        match report(bytes, &mut cells) {
+        match reported(bytes) {
             Ok(told) => check_eq(told.verdict, verdict)?,
             Err(_) => return Err(Fail::new("refused")),
         }
@@ -183,9 +188,8 @@ fn refused_reports() -> Result<(), Fail> {
             None,
         ),
     ];
-    let mut cells = [Ternary::No; CELLS];
     for (bytes, number, place) in cases {
-        match report(bytes, &mut cells) {
+        match reported(bytes) {
             Ok(_) => return Err(Fail::new("taken")),
             Err(refused) => check_eq(refused, Refused { number, place })?,
         }
