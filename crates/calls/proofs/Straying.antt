@@ -17,7 +17,7 @@ use Rattle.recording.specs.Kind.{Kind}
 use Rattle.recording.specs.Tape.{Within}
 use Rattle.recording.specs.Word.{Word}
 use Rattle.machine.proofs.Evaluating.{variables-counted}
-use Rattle.machine.specs.Answers.{Answer, Shape}
+use Rattle.machine.specs.CheckAnswer.{Answer, Shape}
 use Rattle.machine.specs.Machines.{tables}
 use Rattle.machine.specs.Tables.{Tables}
 use Rattle.machine.specs.declared.place.Machine.{Machine}

@@ -9,7 +9,7 @@ use Rattle.recording.specs.Kind.{Kind}
 use Rattle.recording.specs.Kinds.{two}
 use Rattle.recording.specs.Made.{tape-word, wheel-word}
 use Rattle.recording.specs.Word.{Word}
-use Rattle.machine.specs.Answers as machine
+use Rattle.machine.specs.CheckAnswer as machine
 use Rattle.machine.specs.Refusals.{number-of}
 use Rattle.machine.specs.Tables.{Tables}
 use Rattle.machine.specs.declared.refusal.CheckRefusal.{CheckRefusal}

@@ -5,7 +5,7 @@ ghost use Prim.Native.Nat.{ℕ};
 ghost use lib.ListN.{length};
 ghost use Rattle.std.specs.Vec.{made};
 ghost use Rattle.recording.specs.Tape.{Within};
-ghost use Rattle.machine.specs.Answers.{Answer as CheckAnswer};
+ghost use Rattle.machine.specs.CheckAnswer.{Answer as CheckAnswer};
 ghost use Rattle.machine.specs.Machines.{tables};
 ghost use Rattle.calls.specs.Checking.{told as told-as, Checks, OnRecorded};
 use crate::answer::Answer;
