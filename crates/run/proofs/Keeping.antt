@@ -22,6 +22,7 @@ module _ (K B : Kind) (two : TwoValued B) where
   law-of : (lines : List Line) → Sheet lines → 0 < length lines → length lines ≤ 64 → Law K B lines
   law-of lines sheet some few =
       record {
+        some = some;
         judged = λ word nam. let e = exists K word lines sheet nam in (e .0, the-values K word lines sheet (e .0) (e .1));
         two-valued = two;
         sound = sound lines sheet some few;

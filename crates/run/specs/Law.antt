@@ -1,5 +1,5 @@
 -- What holds of the lines of a sealed sheet, on every recording.
-use Prim.Native.Nat.{ℕ, _≤_}
+use Prim.Native.Nat.{ℕ, _≤_, _<_}
 use mathlib.Core.List.{List}
 use mathlib.Core.Path.{_≡_}
 use lib.ListN.{length, take}
@@ -17,6 +17,8 @@ use Rattle.run.specs.Histories.{after}
 
 -- K is any truth kind, B a two-valued one
 pub record Law (K B : Kind) (lines : List Line) : Type 0 where
+  -- there is a last line, the rule
+  pub some : 0 < length lines
   -- on every word of kind K that has the named signals the lines have exactly one valuation: its value for the rule at
   -- sample 0 is the verdict
   pub judged : (word : Word (K .Value)) → HasSignals lines (word .signals) → (f : ℕ → Values K) × TheValues K word lines f
