@@ -84,3 +84,8 @@ pub data Reports (bytes : List ℕ) (cells : ℕ) : Result Report Refused → Ty
       → Unjudged (written [] r) (word bytes d) cells e → Reports bytes cells (Err (refused-judging e))
   judged : (p : Report) (d : Recorded bytes) (r : Rule) → Fitting (names bytes) (rule-text bytes) [] r
       → Judged (written [] r) (word bytes d) p → Reports bytes cells (Ok p)
+
+-- a refusal leaves the cells as they were
+abbrev pub Kept : List Ternary → List Ternary → Result Report Refused → Type 0
+Kept before after (Ok p) = Unit {0}
+Kept before after (Err e) = after ≡ before

@@ -5,7 +5,7 @@ ghost use Prim.Native.Nat.{_≤_};
 ghost use Rattle.lexer.specs.Names.{known};
 ghost use Rattle.recording.specs.Made.{gapped-word};
 ghost use Rattle.sheet.specs.Sheets.{sealed-lines};
-ghost use Rattle.bench_file.specs.Reports.{Reports};
+ghost use Rattle.bench_file.specs.Reports.{Reports, Kept};
 ghost use Rattle.bench_file.specs.Reporting.{Read, Taped, Told};
 use crate::file::BenchFile;
 use crate::file::read_file;
@@ -60,7 +60,8 @@ fn tape_of(file: &BenchFile) -> Result<GappedTape, Refused>
 
 // The machine and the verdict of a sheet on a tape.
 fn judged(sheet: &Sealed, tape: &GappedTape, cells: &mut [Ternary]) -> Result<Report, Refused>
-    ensures { λ r. ⌜ Told (sealed-lines (now (sheet .entry))) (gapped-word (now (tape .entry))) (length (now (cells .entry))) r ⌝ }
+    ensures tells { λ r. ⌜ Told (sealed-lines (now (sheet .entry))) (gapped-word (now (tape .entry))) (length (now (cells .entry))) r ⌝ }
+    ensures kept { λ r. ⌜ Kept (now (cells .entry)) (now (cells .exit)) r ⌝ }
 {
     let verdict = judge(sheet, tape, cells)?;
     let mut machine = Machine::new();
@@ -70,7 +71,8 @@ fn judged(sheet: &Sealed, tape: &GappedTape, cells: &mut [Ternary]) -> Result<Re
 
 /// What is reported of a bench file, or why it is refused.
 pub fn report(bytes: &[u8], cells: &mut [Ternary]) -> Result<Report, Refused>
-    ensures { λ r. ⌜ Reports (now (bytes .entry)) (length (now (cells .entry))) r ⌝ }
+    ensures reports { λ r. ⌜ Reports (now (bytes .entry)) (length (now (cells .entry))) r ⌝ }
+    ensures kept { λ r. ⌜ Kept (now (cells .entry)) (now (cells .exit)) r ⌝ }
 {
     let file = read_file(bytes)?;
     match tape_of(&file) {
