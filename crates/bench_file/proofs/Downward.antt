@@ -1,6 +1,6 @@
 -- Going down a file: the lines that are right so far, and the first that is wrong.
-use Rattle.std.proofs.Common.{◌≡◌, ℕ, zero, suc, ◌+◌, ◌-◌, ◌<◌, ◌≤◌, Bool, true, false, cond, eqb, ◌≢◌, ◌⊎◌, List, [], ◌∷◌, length, get_or, drop, set, IsErrAnd, Ok, Err, Result, sym, refl, ap, ◌∙◌, subst, inl, inr, arith, get_or_set_other, get_or_set_same, Bor, below_more}
-use Rattle.std.proofs.lemmas.List.{drop_drop, length_drop, get_or_drop, take_all}
+use Rattle.std.proofs.Common.{◌≡◌, ℕ, zero, suc, ◌+◌, ◌-◌, ◌<◌, ◌≤◌, Bool, true, false, cond, eqb, ◌≢◌, ◌⊎◌, List, [], ◌∷◌, length, get_or, drop, set, IsErrAnd, Ok, Err, Result, sym, refl, ap, ◌∙◌, subst, inl, inr, arith, get_or-set_other, get_or-set_same, Bor, below_more}
+use Rattle.std.proofs.lemmas.List.{drop-drop, length-drop, get_or-drop, take_all}
 use Rattle.std.proofs.lemmas.Result.{err_from_is_err_and}
 use Rattle.lexer.specs.declared.names.NamesRefusal.{NamesRefusal}
 use Rattle.lexer.specs.Names.{Good, spaced, names_of}
@@ -132,13 +132,13 @@ sample_there ls c t a r rest d e s =
     let n = drop_next ls t a (lines r) (d ∙ e) in
     let f = drop_first ls [] t a (lines r) (d ∙ e) in
     let l = ap length n in
-    ((omega (arith, l, length_drop (t + 1) ls, parts_some 10 r), subst (IsSample c) f.1 s), sym f.1, n)
+    ((omega (arith, l, length-drop (t + 1) ls, parts_some 10 r), subst (IsSample c) f.1 s), sym f.1, n)
 
 pub sample_missing : (ls : List (List ℕ)) (c n t : ℕ) (rest : List ℕ) → drop t ls ≡ lines rest → length (lines rest) ≡ 1 → t < n
     → ((j : ℕ) → j < t → SampleAt ls c j) → SampleWrong ls c n t
 sample_missing ls c n t rest d l lt all =
     let m = ap length d in
-    record { below = lt; all = all; wrong = λ s. let h = s.0 in omega (arith, h, m, l, length_drop t ls) }
+    record { below = lt; all = all; wrong = λ s. let h = s.0 in omega (arith, h, m, l, length-drop t ls) }
 
 pub sample_bad : (ls : List (List ℕ)) (c n t : ℕ) (a r rest : List ℕ) → drop t ls ≡ lines rest → lines rest ≡ a ∷ lines r → (IsSample c a → ⊥) → t < n
     → ((j : ℕ) → j < t → SampleAt ls c j) → SampleWrong ls c n t
@@ -149,7 +149,7 @@ sample_bad ls c n t a r rest d e bad lt all =
 -- one more number is set
 pub set_more : (xs : List ℕ) (f : ℕ → ℕ) (t v : ℕ) → t < length xs → ((j : ℕ) → j < t → get_or xs j 0 ≡ f j) → v ≡ f t → (j : ℕ) → j < t + 1 → get_or (set xs t v) j 0 ≡ f j
 set_more xs f t v lt sofar e =
-    below_more _ _ (λ j below. let ne : j ≢ t = omega arith in get_or_set_other xs t j v 0 ne ∙ sofar j below) (get_or_set_same xs t v 0 lt ∙ e)
+    below_more _ _ (λ j below. let ne : j ≢ t = omega arith in get_or-set_other xs t j v 0 ne ∙ sofar j below) (get_or-set_same xs t v 0 lt ∙ e)
 
 pub samples_form : (ls : List (List ℕ)) (c n t : ℕ) (masks lost : List ℕ) (r : Result (Bor (List ℕ)) FileRefusal) (e : FileRefusal) → IsErrAnd r (λ y. y ≡ e) → e ≡ Form (3 + t)
     → SampleWrong ls c n t → SamplesOf ls c n masks lost r

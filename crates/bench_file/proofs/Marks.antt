@@ -1,5 +1,5 @@
 -- The marks of a sample.
-use Rattle.std.proofs.Common.{◌≡◌, ℕ, zero, suc, ◌+◌, ◌-◌, ◌*◌, ◌^◌, ◌<◌, ◌≤◌, Bool, true, false, cond, eqb, ◌⊎◌, List, [], ◌∷◌, length, get_or, Some, None, sym, refl, ap, ◌∙◌, subst, inl, inr, pow_suc, arith}
+use Rattle.std.proofs.Common.{◌≡◌, ℕ, zero, suc, ◌+◌, ◌-◌, ◌*◌, ◌^◌, ◌<◌, ◌≤◌, Bool, true, false, cond, eqb, ◌⊎◌, List, [], ◌∷◌, length, get_or, Some, None, sym, refl, ap, ◌∙◌, subst, inl, inr, pow-suc, arith}
 use Rattle.lexer.specs.Names.{spaced}
 use Rattle.lexer.specs.Parts.{parts, on_first}
 use Rattle.bench_file.specs.declared.form.Sample.{Sample}
@@ -69,7 +69,7 @@ sample_more c l rest p s o ne pos e m r =
     let b : lost_of l ≡ marked 63 p + 2 * lost_of rest = ap (bits 63) e in
     let f : field l 0 ≡ p = ap (λ (xs : List (List ℕ)). get_or xs 0 []) e in
     let n : c ≡ suc (c - 1) = omega arith in
-    let w : 2 ^ c ≡ 2 ^ (c - 1) * 2 = ap (λ (k : ℕ). 2 ^ k) n ∙ pow_suc 2 (c - 1) in
+    let w : 2 ^ c ≡ 2 ^ (c - 1) * 2 = ap (λ (k : ℕ). 2 ^ k) n ∙ pow-suc 2 (c - 1) in
     let len = ap length e in (
       record { signals = omega (arith, len, r.0.signals, pos); marks = both f },
       omega (arith, a, m.1, r.1),

@@ -1,6 +1,6 @@
 -- The header's numerals.
 use Rattle.std.proofs.Common.{◌≡◌, ℕ, suc, ◌+◌, ◌-◌, ◌*◌, ◌<◌, ◌≤◌, true, false, List, [], ◌∷◌, ◌++◌, length, get_or, take, drop, Some, Option, sym, refl, ap, ◌∙◌, subst, append_assoc, arith, Bor}
-use Rattle.std.proofs.lemmas.List.{length_append, drop_at}
+use Rattle.std.proofs.lemmas.List.{length-append, drop_at}
 use Rattle.std.proofs.lemmas.List.Sums.{fold_more}
 use Rattle.std.proofs.lemmas.Bool.Decides.{nat_tests}
 use Rattle.std.specs.Char.{is_ascii_digit}
@@ -34,7 +34,7 @@ rest_of_line l after rule p q e a b =
     let n1 : field l 1 ≡ q = ap (λ (ps : List (List ℕ)). get_or ps 1 []) e in
     let m0 = ap length n0 in
     let m1 = ap length n1 in
-    let m : length front ≡ length (field l 0) + length (field l 1) + 2 = omega (arith, length_append p (32 ∷ (q ++ 32 ∷ [])), length_append q (32 ∷ []), m0, m1) in
+    let m : length front ≡ length (field l 0) + length (field l 1) + 2 = omega (arith, length-append p (32 ∷ (q ++ 32 ∷ [])), length-append q (32 ∷ []), m0, m1) in
     sym (ap (drop (length (field l 0) + length (field l 1) + 2)) whole ∙ drop_at front rule _ m)
 
 pub header_of : (l rule p q : List ℕ) (u v : ℕ) → spaced l ≡ p ∷ q ∷ spaced rule → Counted p (Some u) → Counted q (Some v)

@@ -1,7 +1,7 @@
 -- What a bench file says is what is reported of.
 use Rattle.std.proofs.Common.{◌≡◌, ℕ, ◌+◌, ◌<◌, ◌≤◌, List, [], ◌∷◌, length, get_or, take, Ok, Err, Result, sym, refl, ap, ◌∙◌, subst, arith, take_all}
 use mathlib.Core.Path.{transport}
-use Rattle.std.proofs.lemmas.List.{length_take_le, get_or_take}
+use Rattle.std.proofs.lemmas.List.{length-take-le, get_or-take}
 use Rattle.recording.specs.Gapped.{gapped}
 use Rattle.recording.specs.Made.{gapped_word}
 use Rattle.recording.specs.Tape.{Fits}
@@ -48,10 +48,10 @@ module _ (bytes : List ℕ) (f : BenchFile) (form : InForm bytes) (says : Says b
   front m = take (f.stem + f.cycle) m
 
   front_long : (m : List ℕ) → length m ≡ 1998 → length (front m) ≡ samples ls
-  front_long m e = length_take_le (f.stem + f.cycle) m (omega (arith, small)) ∙ samples_is
+  front_long m e = length-take-le (f.stem + f.cycle) m (omega (arith, small)) ∙ samples_is
 
   front_at : (m : List ℕ) (t : ℕ) → t < samples ls → get_or (front m) t 0 ≡ get_or m t 0
-  front_at m t h = get_or_take (f.stem + f.cycle) m t 0 (omega (arith, samples_is))
+  front_at m t h = get_or-take (f.stem + f.cycle) m t 0 (omega (arith, samples_is))
 
   pub sampled : Sampled ls (front f.masks) (front f.lost)
   sampled =

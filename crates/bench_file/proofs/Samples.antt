@@ -1,6 +1,6 @@
 -- The samples of a file, and its end.
 use Rattle.std.proofs.Common.{◌≡◌, ℕ, zero, suc, ◌+◌, ◌-◌, ◌<◌, ◌≤◌, Bool, true, false, cond, eqb, ◌⊎◌, List, [], ◌∷◌, length, get_or, take, drop, IsErrAnd, Ok, Err, Result, sym, refl, ap, ◌∙◌, subst, inl, inr, arith}
-use Rattle.std.proofs.lemmas.List.{drop_drop, length_drop, length_take, get_or_drop, take_all}
+use Rattle.std.proofs.lemmas.List.{drop-drop, length-drop, length-take, get_or-drop, take_all}
 use Rattle.std.proofs.lemmas.Result.{err_from_is_err_and}
 use Rattle.lexer.specs.Names.{Good, spaced, names_of, known}
 use Rattle.lexer.specs.Parts.{parts, on_first}
@@ -18,10 +18,10 @@ pub count_is : (l : List ℕ) → Good l → length (names_of l) ≡ length (spa
 count_is l g = ap length (take_all 32 (spaced l) g.few)
 
 pub count_small : (l : List ℕ) → length (names_of l) ≤ 32
-count_small l = omega (arith, length_take 32 (spaced l))
+count_small l = omega (arith, length-take 32 (spaced l))
 
 pub count_some : (l : List ℕ) → 0 < length (names_of l)
-count_some l = omega (arith, length_take 32 (spaced l), parts_some 32 l)
+count_some l = omega (arith, length-take 32 (spaced l), parts_some 32 l)
 
 -- bytes whose one line is empty are none
 some_line : (s b : ℕ) (bs : List ℕ) (t : Bool) → length (cond t ([] ∷ parts s bs) (on_first b (parts s bs))) ≡ 1
@@ -44,10 +44,10 @@ nil (x ∷ xs) l = absurd (omega (arith, l))
 -- the lines from line 3 on
 module _ (ls ms : List (List ℕ)) (c n : ℕ) (rest_is : drop 3 ls ≡ ms) (n_is : n ≡ samples ls) (c_is : c ≡ signals ls) where
   line_is : (t : ℕ) → line ls (3 + t) ≡ line ms t
-  line_is t = sym (get_or_drop 3 ls t []) ∙ ap (λ (xs : List (List ℕ)). get_or xs t []) rest_is
+  line_is t = sym (get_or-drop 3 ls t []) ∙ ap (λ (xs : List (List ℕ)). get_or xs t []) rest_is
 
   long : length ms ≡ length ls - 3
-  long = ap length (sym rest_is) ∙ length_drop 3 ls
+  long = ap length (sym rest_is) ∙ length-drop 3 ls
 
   sample_right : (t : ℕ) → t < n → SampleAt ms c t → IsRight ls (3 + t)
   sample_right t lt s =
@@ -92,12 +92,12 @@ module _ (ls ms : List (List ℕ)) (c n : ℕ) (rest_is : drop 3 ls ≡ ms) (n_i
 
   -- what is left after the samples
   left : (rest : List ℕ) → drop n ms ≡ lines rest → drop (3 + n) ls ≡ lines rest
-  left rest d = sym (drop_drop n 3 ls) ∙ ap (λ (xs : List (List ℕ)). drop n xs) rest_is ∙ d
+  left rest d = sym (drop-drop n 3 ls) ∙ ap (λ (xs : List (List ℕ)). drop n xs) rest_is ∙ d
 
   last_line : (rest : List ℕ) → drop n ms ≡ lines rest → get_or (lines rest) 0 [] ≡ line ls (3 + n)
   last_line rest d =
       let z : 3 + n + 0 ≡ 3 + n = omega arith in
-      ap (λ (xs : List (List ℕ)). get_or xs 0 []) (sym (left rest d)) ∙ get_or_drop (3 + n) ls 0 [] ∙ ap (line ls) z
+      ap (λ (xs : List (List ℕ)). get_or xs 0 []) (sym (left rest d)) ∙ get_or-drop (3 + n) ls 0 [] ∙ ap (line ls) z
 
   pub wrong_extra : ((k : ℕ) → k ≤ 2 → IsRight ls k) → Good (line ls 2) → (masks lost rest : List ℕ) → SamplesRight ms c n masks lost rest → 0 < length rest
       → FirstWrong ls (3 + n)
@@ -108,7 +108,7 @@ module _ (ls ms : List (List ℕ)) (c n : ℕ) (rest_is : drop 3 ls ≡ ms) (n_i
         wrong = λ r.
             let e = r.nothing (ap (λ (k : ℕ). 3 + k) n_is) in
             let l = ap length (left rest s.after) in
-            let z = no_bytes 10 rest (omega (arith, l, length_drop (3 + n) ls, e.0)) (last_line rest s.after ∙ e.1) in
+            let z = no_bytes 10 rest (omega (arith, l, length-drop (3 + n) ls, e.0)) (last_line rest s.after ∙ e.1) in
             omega (arith, z, some);
         named = λ h. good;
       }
@@ -122,7 +122,7 @@ module _ (ls ms : List (List ℕ)) (c n : ℕ) (rest_is : drop 3 ls ≡ ms) (n_i
         heads = λ h. absurd (omega (arith, h));
         header = λ h. absurd (omega (arith, h));
         sample = λ h g. absurd (omega (arith, g, n_is));
-        nothing = λ h. (omega (arith, l, length_drop (3 + n) ls), sym (last_line rest d) ∙ ap (λ (xs : List (List ℕ)). get_or xs 0 []) e);
+        nothing = λ h. (omega (arith, l, length-drop (3 + n) ls), sym (last_line rest d) ∙ ap (λ (xs : List (List ℕ)). get_or xs 0 []) e);
       }
 
   pub all_right : ((k : ℕ) → k ≤ 2 → IsRight ls k) → (masks lost rest : List ℕ) → SamplesRight ms c n masks lost rest → length rest ≡ 0

@@ -1,5 +1,5 @@
 -- Numbers, word by word.
-use Rattle.std.proofs.Common.{◌≡◌, ℕ, ◌+◌, ◌<◌, List, [], ◌∷◌, ◌++◌, length, Some, None, Option, sym, refl, ap, ◌∙◌, append_assoc, arith, length_append}
+use Rattle.std.proofs.Common.{◌≡◌, ℕ, ◌+◌, ◌<◌, List, [], ◌∷◌, ◌++◌, length, Some, None, Option, sym, refl, ap, ◌∙◌, append_assoc, arith, length-append}
 use Rattle.calls.specs.Words.{both, number, numbers}
 
 -- what was found before the rest
@@ -14,4 +14,4 @@ before_both xs n (Some ns) = ap Some (sym (append_assoc xs (n ∷ []) ns))
 -- what follows a separator is shorter
 pub rest_shorter : (s : ℕ) (whole first rest : List ℕ) → whole ≡ first ++ s ∷ rest → length rest < length whole
 rest_shorter s whole first rest e =
-    let n : length whole ≡ length first + length (s ∷ rest) = ap length e ∙ length_append first (s ∷ rest) in omega arith
+    let n : length whole ≡ length first + length (s ∷ rest) = ap length e ∙ length-append first (s ∷ rest) in omega arith

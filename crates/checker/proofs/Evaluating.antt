@@ -1,7 +1,7 @@
 -- A gate's bit depends on earlier gates alone.
-use Rattle.std.proofs.Common.{◌≡◌, ℕ, suc, ◌+◌, ◌<◌, Bool, true, false, not, ◌&&◌, ◌||◌, ltb, ◌≢◌, List, length, get_or, set, sym, refl, ap, ◌∙◌, subst, ap₂, arith, get_or_set_other, get_or_set_same}
+use Rattle.std.proofs.Common.{◌≡◌, ℕ, suc, ◌+◌, ◌<◌, Bool, true, false, not, ◌&&◌, ◌||◌, ltb, ◌≢◌, List, length, get_or, set, sym, refl, ap, ◌∙◌, subst, ap₂, arith, get_or-set_other, get_or-set_same}
 use native.Mathlib.Decide.{dec_lt}
-use Rattle.std.proofs.lemmas.Bool.{ltb_true, and_parts}
+use Rattle.std.proofs.lemmas.Bool.{ltb-true, and_parts}
 use Rattle.recording.specs.Kind.{Kind}
 use Rattle.recording.specs.Word.{Word}
 use Rattle.machine.specs.declared.gate.Gate.{Gate}
@@ -26,11 +26,11 @@ module _ (K : Kind) (word : Word K.Value) (run : Bits) where
   reads_moves (gate.Const c) j v t fit g h e b r = r
   reads_moves (gate.Signal i) j v t fit g h e b r = r
   reads_moves (gate.Var i) j v t fit g h e b r = r
-  reads_moves (gate.Not a) j v t fit g h e b r = r ∙ ap not (e a (ltb_true a j fit))
+  reads_moves (gate.Not a) j v t fit g h e b r = r ∙ ap not (e a (ltb-true a j fit))
   reads_moves (gate.And a c) j v t fit g h e b r =
-      let p = and_parts (ltb a j) (ltb c j) fit in r ∙ ap₂ ◌&&◌ (e a (ltb_true a j p.0)) (e c (ltb_true c j p.1))
+      let p = and_parts (ltb a j) (ltb c j) fit in r ∙ ap₂ ◌&&◌ (e a (ltb-true a j p.0)) (e c (ltb-true c j p.1))
   reads_moves (gate.Or a c) j v t fit g h e b r =
-      let p = and_parts (ltb a j) (ltb c j) fit in r ∙ ap₂ ◌||◌ (e a (ltb_true a j p.0)) (e c (ltb_true c j p.1))
+      let p = and_parts (ltb a j) (ltb c j) fit in r ∙ ap₂ ◌||◌ (e a (ltb-true a j p.0)) (e c (ltb-true c j p.1))
 
   -- a gate has one bit
   pub reads_one : (z : Gate) (t : ℕ) (g : Bits) (b c : Bool) → Reads K word run g z t b → Reads K word run g z t c → b ≡ c
@@ -54,9 +54,9 @@ module _ (K : Kind) (word : Word K.Value) (run : Bits) where
         | no more ↦
             (let e : j ≡ k = omega arith in
             subst (λ i. Reads K word run (listed (set values k b)) (gates i) t (get_or (set values k b) i false)) (sym e)
-            (subst (λ c. Reads K word run (listed (set values k b)) (gates k) t c) (sym (get_or_set_same values k b false inside))
+            (subst (λ c. Reads K word run (listed (set values k b)) (gates k) t c) (sym (get_or-set_same values k b false inside))
             (reads_moves (gates k) k v t (fit k (omega arith)) (listed values) (listed (set values k b)) (λ a ha. sym (kept a ha)) b here)))
       ]
     where
       kept : (a : ℕ) → a < k → get_or (set values k b) a false ≡ get_or values a false
-      kept a ha = let ne : a ≢ k = omega arith in get_or_set_other values k a b false ne
+      kept a ha = let ne : a ≢ k = omega arith in get_or-set_other values k a b false ne

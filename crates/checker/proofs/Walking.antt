@@ -1,8 +1,8 @@
 -- Going over the rows of a run, from moment to moment.
-use Rattle.std.proofs.Common.{◌≡◌, ℕ, zero, suc, ◌+◌, ◌-◌, ◌%◌, ◌<◌, ◌≤◌, Bool, true, false, cond, not, ◌&&◌, ◌||◌, ltb, leb, ◌⊎◌, ◌↔◌, List, length, get_or, replicate, Decides, sym, refl, ap, ◌∙◌, subst, ap₂, inl, inr, true≢false, not_suc_le_zero, add_one, arith}
+use Rattle.std.proofs.Common.{◌≡◌, ℕ, zero, suc, ◌+◌, ◌-◌, ◌%◌, ◌<◌, ◌≤◌, Bool, true, false, cond, not, ◌&&◌, ◌||◌, ltb, leb, ◌⊎◌, ◌↔◌, List, length, get_or, replicate, Decides, sym, refl, ap, ◌∙◌, subst, ap₂, inl, inr, true≢false, not-suc-le-zero, add-one, arith}
 use mathlib.Core.Bool.{false≢true}
 use native.Mathlib.Decide.{dec_lt}
-use Rattle.std.proofs.lemmas.Bool.{ltb_true, lt_ltb, leb_true, le_leb, and_parts, and_from, or_cases, or_left, or_right}
+use Rattle.std.proofs.lemmas.Bool.{ltb-true, lt-ltb, leb-true, le-leb, and_parts, and_from, or_cases, or_left, or_right}
 use Rattle.recording.specs.Kind.{Kind, TwoValued}
 use Rattle.recording.specs.Tape.{bit}
 use Rattle.recording.specs.Word.{Word, meant}
@@ -31,7 +31,7 @@ module _ (K : Kind) (only : TwoValued K) (m : Tables) (wired : Wired m) (word : 
 
   right_to : (k : ℕ) → k ≤ length m.gates → (j : ℕ) → j < k → (t : ℕ) → Reads K word rows (bits_to k) (gate_at m.gates j) t (bits_to k j t)
   unfolding bits_to
-  right_to zero hk j h t = absurd (not_suc_le_zero h)
+  right_to zero hk j h t = absurd (not-suc-le-zero h)
   right_to (suc k) hk j h t =
       elim (dec_lt j k) [
         | yes less ↦
@@ -60,7 +60,7 @@ module _ (K : Kind) (only : TwoValued K) (m : Tables) (wired : Wired m) (word : 
 module _ (K : Kind) (m : Tables) (wired : Wired m) (word : Word K.Value) (n : ℕ) (rows : List ℕ) (g : Bits) (ev : Evaluates K m word n (row_bits rows) g) where
   module _ (t : ℕ) (ht : t < n) (x : Moment) (shows : MomentAt K m.gates word rows t x) where
     agrees_to : (l j : ℕ) → j < l → j < length m.gates → g j t ≡ get_or x.values j false
-    agrees_to zero j h hj = absurd (not_suc_le_zero h)
+    agrees_to zero j h hj = absurd (not-suc-le-zero h)
     agrees_to (suc l) j h hj =
         reads_one K word (row_bits rows) (gate_at m.gates j) t (listed x.values) (g j t) (get_or x.values j false)
         (reads_moves K word (row_bits rows) (gate_at m.gates j) j (length m.variables) t (wired.gates j hj) g (listed x.values)
@@ -76,11 +76,11 @@ module _ (K : Kind) (m : Tables) (wired : Wired m) (word : Word K.Value) (n : �
     pub met_same : (p : Pair) → pair_fits (length m.gates) p ≡ true → is_met p x ≡ (not (g p.from t) || g p.to t)
     met_same p fit =
         let q = and_parts (ltb p.from (length m.gates)) (ltb p.to (length m.gates)) fit in
-        ap₂ (λ a b. not a || b) (sym (agrees p.from (ltb_true p.from (length m.gates) q.0))) (sym (agrees p.to (ltb_true p.to (length m.gates) q.1)))
+        ap₂ (λ a b. not a || b) (sym (agrees p.from (ltb-true p.from (length m.gates) q.0))) (sym (agrees p.to (ltb-true p.to (length m.gates) q.1)))
 
   module _ (t u : ℕ) (ht : t < n) (hu : u < n) (x y : Moment) (here : MomentAt K m.gates word rows t x) (there : MomentAt K m.gates word rows u y) where
     below : (a : ℕ) → ltb a (length m.gates) ≡ true → a < length m.gates
-    below a h = ltb_true a (length m.gates) h
+    below a h = ltb-true a (length m.gates) h
 
     pub equation_told : (z : Variable) (j : ℕ) → variable_fits (length m.gates) z ≡ true → Equation g z (row_bits rows j) t u → Equation (gates_from x y) z (bits_from x y j) 0 1
     equation_told (variable.Next a) j fit e = sym (row_is t ht x here j) ∙ e ∙ agrees u hu y there a (below a fit)
@@ -146,14 +146,14 @@ module _ (K : Kind) (m : Tables) (wired : Wired m) (word : Word K.Value) (rows :
   walked_none first met shows sized none =
       record {
         sized = sized;
-        shows = subst (λ b. MomentAt K m.gates word rows (cond b 0 back) first) (sym (lt_ltb 0 n (omega arith))) shows;
-        equations = λ g ev t h. absurd (not_suc_le_zero h);
-        pairs = λ g ev j hj. (λ e. absurd (false≢true (sym (none j) ∙ e)), λ w. absurd (not_suc_le_zero w.2));
+        shows = subst (λ b. MomentAt K m.gates word rows (cond b 0 back) first) (sym (lt-ltb 0 n (omega arith))) shows;
+        equations = λ g ev t h. absurd (not-suc-le-zero h);
+        pairs = λ g ev j hj. (λ e. absurd (false≢true (sym (none j) ∙ e)), λ w. absurd (not-suc-le-zero w.2));
       }
 
   module _ (i : ℕ) (hi : i < n) (here there : Moment) (met met' : List Bool) (walked : Walked K m word rows back i here met) where
     pub here_shows : MomentAt K m.gates word rows i here
-    here_shows = subst (λ b. MomentAt K m.gates word rows (cond b i back) here) (lt_ltb i n hi) walked.shows
+    here_shows = subst (λ b. MomentAt K m.gates word rows (cond b i back) here) (lt-ltb i n hi) walked.shows
 
     module _ (next : MomentAt K m.gates word rows (after n back i) there) (after_in : after n back i < n) where
       -- the equations of the row at hand, as the code finds them
@@ -172,7 +172,7 @@ module _ (K : Kind) (m : Tables) (wired : Wired m) (word : Word K.Value) (rows :
       walked_more kept sized noted =
           record {
             sized = sized;
-            shows = subst (λ k. MomentAt K m.gates word rows (cond (ltb k n) k back) there) (sym (add_one i)) next;
+            shows = subst (λ k. MomentAt K m.gates word rows (cond (ltb k n) k back) there) (sym (add-one i)) next;
             equations = λ g ev t h j hj.
                 elim (dec_lt t i) [
                   | yes less ↦ walked.equations g ev t less j hj
@@ -197,7 +197,7 @@ module _ (K : Kind) (m : Tables) (wired : Wired m) (word : Word K.Value) (rows :
                 | inr b ↦
                     (let q = and_parts (leb back i) (is_met (pair_at m.pairs j) here) b in (
                       i,
-                      leb_true back i q.0,
+                      leb-true back i q.0,
                       omega arith,
                       met_bits (g (pair_at m.pairs j).from i) (g (pair_at m.pairs j).to i) (sym (same g ev j hj) ∙ q.1),
                     ))
@@ -212,7 +212,7 @@ module _ (K : Kind) (m : Tables) (wired : Wired m) (word : Word K.Value) (rows :
                 | no more ↦
                     (let e : w.0 ≡ i = omega (arith, w.2) in
                     or_right (get_or met j false) (leb back i && is_met (pair_at m.pairs j) here)
-                    (and_from (leb back i) (is_met (pair_at m.pairs j) here) (le_leb back i (omega (arith, w.1)))
+                    (and_from (leb back i) (is_met (pair_at m.pairs j) here) (le-leb back i (omega (arith, w.1)))
                     (same g ev j hj ∙ bits_met (g (pair_at m.pairs j).from i) (g (pair_at m.pairs j).to i)
                     (subst (λ s. Met (g (pair_at m.pairs j).from s) (g (pair_at m.pairs j).to s)) e w.3))))
               ]

@@ -1,7 +1,7 @@
 -- The run check takes every run that was written out.
-use Rattle.std.proofs.Common.{◌≡◌, ℕ, zero, suc, ◌+◌, ◌-◌, ◌*◌, ◌%◌, ◌<◌, ◌≤◌, min, Bool, false, ◌↔◌, List, [], ◌∷◌, length, get_or, take, Ok, Err, Decides, sym, refl, ap, ◌∙◌, subst, arith, length_take}
+use Rattle.std.proofs.Common.{◌≡◌, ℕ, zero, suc, ◌+◌, ◌-◌, ◌*◌, ◌%◌, ◌<◌, ◌≤◌, min, Bool, false, ◌↔◌, List, [], ◌∷◌, length, get_or, take, Ok, Err, Decides, sym, refl, ap, ◌∙◌, subst, arith, length-take}
 use native.Mathlib.Nat.{mod_self}
-use Rattle.std.proofs.lemmas.List.{get_or_take}
+use Rattle.std.proofs.lemmas.List.{get_or-take}
 use Rattle.recording.specs.Kind.{Kind}
 use Rattle.recording.specs.Tape.{Within, bit}
 use Rattle.recording.specs.Word.{Word, meant}
@@ -85,7 +85,7 @@ shaped lines w sheet some most =
 
 -- rows past the last are not looked at
 first_rows : (n back : ℕ) (rows : List ℕ) → back < n → endless n back (row_bits (take n rows)) ≡ endless n back (row_bits rows)
-first_rows n back rows h = λ i j t. bit (get_or_take n rows (row_at n back t) 0 (row_in n back h t) i) j
+first_rows n back rows h = λ i j t. bit (get_or-take n rows (row_at n back t) 0 (row_in n back h t) i) j
 
 refuses_none : (K : Kind) {V : Type 0} (means : V → K.Value) (m : Tables) (w : Word V) (rows : List ℕ) (back : ℕ) (e : CheckRefusal)
     → HasGateSignals m.gates w.signals → Shape w (length rows) back → Within (length m.variables) rows → Answer K means m w rows back (Err e) → ⊥
@@ -103,7 +103,7 @@ module _ (K : Kind) {V : Type 0} (means : V → K.Value) (lines : List Line) (w 
   sent_is = let e : o.rows - 0 ≡ horizon lines w = omega (arith, wrote.count) in ap (λ n. take n rows') e
 
   sent_length : length sent ≡ horizon lines w
-  sent_length = ap length sent_is ∙ length_take (horizon lines w) rows' ∙ omega (arith, wrote.room, wrote.as_long)
+  sent_length = ap length sent_is ∙ length-take (horizon lines w) rows' ∙ omega (arith, wrote.room, wrote.as_long)
 
   shape : Shape w (length sent) o.back
   shape = subst (λ (q : ℕ × ℕ). Shape w q.0 q.1) (λ i. (sym sent_length i, sym wrote.back i)) (shaped lines w sheet some most)

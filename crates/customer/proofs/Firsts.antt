@@ -1,5 +1,5 @@
 -- The first signal.
-use Rattle.std.proofs.Common.{◌≡◌, ℕ, zero, suc, ◌+◌, ◌*◌, ◌<◌, ◌≤◌, List, [], ◌∷◌, length, get_or, take, Ok, Err, Result, sym, refl, ap, ◌∙◌, subst, one_mul, zero_mul, arith, take_all, get_or_take}
+use Rattle.std.proofs.Common.{◌≡◌, ℕ, zero, suc, ◌+◌, ◌*◌, ◌<◌, ◌≤◌, List, [], ◌∷◌, length, get_or, take, Ok, Err, Result, sym, refl, ap, ◌∙◌, subst, one-mul, zero-mul, arith, take_all, get_or-take}
 use Rattle.recording.specs.Word.{Word}
 use Rattle.sheet.specs.declared.line.Line.{Line}
 use Rattle.sheet.specs.declared.line.Line.TheVariants.{Signal}
@@ -31,7 +31,7 @@ module _ {V W : Type 0} (h : Heard V) (b : Heard W) where
       subst (IsVerdict (λ x. h.means x ≡ h.means (w.at 0 0))) (sym is) (j.verdict ∙ j.valuation 0 (omega arith) 0)
   judged_first w before after cells same a (Err NoSignal) is j room = absurd (j.0 (one_line w.signals w.sizes.0))
   judged_first w before after cells same a (Err TooFewCells) is j room =
-      absurd (omega (arith, j.1, ap length same, zero_mul w.cycle, one_mul (w.stem + 0 * w.cycle + w.cycle)))
+      absurd (omega (arith, j.1, ap length same, zero-mul w.cycle, one-mul (w.stem + 0 * w.cycle + w.cycle)))
 
   third : (s u : Lent V W) (zs : List (Answer V W)) → Story h b start s three_calls zs u → ToldFirst h s.cells (get_or zs 2 Done)
   third s u [] st = absurd st
@@ -48,6 +48,6 @@ module _ {V W : Type 0} (h : Heard V) (b : Heard W) where
   pub first_of : (l : Ledger) → l ≡ start → (s u : Lent V W) (room : ℕ) (zs : List (Answer V W)) → Story h b l s (take room three_calls) (take 3 zs) u → 3 ≤ room
       → ToldFirst h s.cells (get_or zs 2 Done)
   first_of l new s u room zs st r =
-      subst (λ (a : Answer V W). ToldFirst h s.cells a) (get_or_take 3 zs 2 Done (omega arith))
+      subst (λ (a : Answer V W). ToldFirst h s.cells a) (get_or-take 3 zs 2 Done (omega arith))
       (third s u (take 3 zs)
       (subst (λ (m : Ledger). Story h b m s three_calls (take 3 zs) u) new (subst (λ (cs : List Call). Story h b l s cs (take 3 zs) u) (take_all room three_calls r) st)))

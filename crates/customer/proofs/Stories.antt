@@ -1,5 +1,5 @@
 -- What a story tells of one of its calls.
-use Rattle.std.proofs.Common.{◌≡◌, ℕ, zero, suc, ◌<◌, List, [], ◌∷◌, length, get_or, take, fold, sym, refl, ap, ◌∙◌, subst, not_suc_le_zero, arith}
+use Rattle.std.proofs.Common.{◌≡◌, ℕ, zero, suc, ◌<◌, List, [], ◌∷◌, length, get_or, take, fold, sym, refl, ap, ◌∙◌, subst, not-suc-le-zero, arith}
 use Rattle.sheet.specs.Ledger.{Ledger}
 use Rattle.run.specs.declared.answer.Answer.{Answer}
 use Rattle.run.specs.declared.answer.Answer.TheVariants.{NoRecording}
@@ -17,7 +17,7 @@ module _ {V W : Type 0} (h : Heard V) (b : Heard W) where
   -- call m
   story_at : (l : Ledger) (s u : Lent V W) (cs : List Call) (zs : List (Answer V W)) (m : ℕ) → m < length cs → Story h b l s cs zs u
       → (t : Lent V W) × (t' : Lent V W) × Tells h b (fold step l (take m cs)).form (fold step l (take m cs)) (get_or cs m Strike) (get_or zs m NoRecording) t t'
-  story_at l s u [] zs m k st = absurd (not_suc_le_zero k)
+  story_at l s u [] zs m k st = absurd (not-suc-le-zero k)
   story_at l s u (c ∷ cs) [] m k st = absurd st
   story_at l s u (c ∷ cs) (a ∷ zs) zero k st = (s, st.0, st.1)
   story_at l s u (c ∷ cs) (a ∷ zs) (suc m) k st = story_at (step l c) st.0 u cs zs m (omega arith) st.2

@@ -4,7 +4,7 @@ use mathlib.Core.Path.{◌≡◌, refl, sym, ◌∙◌, ap, subst}
 use mathlib.Core.Logic.{◌⊎◌, inl, inr, ◌↔◌}
 use mathlib.Core.List.{List, [], ◌∷◌}
 use Prim.Native.Nat.{ℕ, zero, suc, ◌+◌, ◌≤◌, ◌<◌}
-use native.Mathlib.Nat.{add_zero, zero_add, add_suc, suc_add, not_suc_le_zero}
+use native.Mathlib.Nat.{add-zero, zero-add, add-suc, suc-add, not-suc-le-zero}
 use native.Mathlib.Omega.{arith}
 use lib.Dec.{lit<}
 use lib.ListN.{length}
@@ -28,12 +28,12 @@ Each P k zero = Unit {0}
 Each P k (suc n) = P k × Each P (suc k) n
 
 each_at : (P : ℕ → Type 0) (n k : ℕ) → Each P k n → (i : ℕ) → i < n → P (k + i)
-each_at P zero k h i b = absurd (not_suc_le_zero b)
-each_at P (suc n) k h zero b = subst P (sym (add_zero k)) h.0
-each_at P (suc n) k h (suc i) b = subst P (suc_add k i ∙ sym (add_suc k i)) (each_at P n (suc k) h.1 i (omega arith))
+each_at P zero k h i b = absurd (not-suc-le-zero b)
+each_at P (suc n) k h zero b = subst P (sym (add-zero k)) h.0
+each_at P (suc n) k h (suc i) b = subst P (suc-add k i ∙ sym (add-suc k i)) (each_at P n (suc k) h.1 i (omega arith))
 
 each_below : (P : ℕ → Type 0) (n : ℕ) → Each P 0 n → (i : ℕ) → i < n → P i
-each_below P n h i b = subst P (zero_add i) (each_at P n 0 h i b)
+each_below P n h i b = subst P (zero-add i) (each_at P n 0 h i b)
 
 abbrev IsSheet : List Line → Type 0
 IsSheet lines = Each (λ k. Lower k (line lines k)) 0 (length lines)

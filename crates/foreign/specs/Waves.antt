@@ -1,7 +1,7 @@
 -- Square waves: one signal, high for `on` samples and low for `off` by turns.
 use Rattle.std.proofs.Common.{ap}
 use Rattle.std.specs.Prelude.{ℕ, ◌+◌, ◌%◌, cond, nat_lt}
-use Rattle.std.proofs.Math.Nat.{add_mod_right}
+use Rattle.std.proofs.Math.Nat.{add-mod_right}
 use Rattle.recording.specs.Word.{Sizes, Word}
 
 -- the word of a wave
@@ -12,5 +12,5 @@ wave high low on off sizes = record {
   cycle = on + off;
   sizes = sizes;
   at = λ i t. cond (nat_lt (t % (on + off)) on) high low;
-  repeats = λ i t below past. ap (λ n. cond (nat_lt n on) high low) (add_mod_right t (on + off));
+  repeats = λ i t below past. ap (λ n. cond (nat_lt n on) high low) (add-mod_right t (on + off));
 }

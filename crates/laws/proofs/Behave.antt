@@ -1,5 +1,5 @@
 -- What a line's own gate does, and that it bounds the line's value.
-use Rattle.std.proofs.Common.{◌≡◌, ℕ, zero, suc, ◌+◌, ◌-◌, ◌<◌, ◌≤◌, Bool, true, false, not, ◌&&◌, ◌||◌, ◌⊎◌, sym, refl, ap, ◌∙◌, subst, ap₂, subst₂, inl, inr, true≢false, not_suc_le_zero, add_zero, add_suc, suc_add, zero_add, add_one, arith}
+use Rattle.std.proofs.Common.{◌≡◌, ℕ, zero, suc, ◌+◌, ◌-◌, ◌<◌, ◌≤◌, Bool, true, false, not, ◌&&◌, ◌||◌, ◌⊎◌, sym, refl, ap, ◌∙◌, subst, ap₂, subst₂, inl, inr, true≢false, not-suc-le-zero, add-zero, add-suc, suc-add, zero-add, add-one, arith}
 use mathlib.Core.Path.{fun_ext}
 use mathlib.Core.Bool.{false≢true}
 use Rattle.std.proofs.lemmas.Bool.{and_parts, and_from, or_cases, or_left, or_right}
@@ -100,7 +100,7 @@ until_unrolls l r z is t =
     each : (n : ℕ) → AtMost two (r (t + n) && ands two l t n) (r t || (l t && z (suc t)))
     each zero =
         at_most (r (t + 0) && true) (r t || (l t && z (suc t)))
-        (λ e. or_left (r t) (l t && z (suc t)) (ap r (sym (add_zero t)) ∙ (and_parts (r (t + 0)) true e).0))
+        (λ e. or_left (r t) (l t && z (suc t)) (ap r (sym (add-zero t)) ∙ (and_parts (r (t + 0)) true e).0))
     each (suc n) =
         at_most (r (t + suc n) && (l t && ands two l (suc t) n)) (r t || (l t && z (suc t)))
         (λ e.
@@ -109,11 +109,11 @@ until_unrolls l r z is t =
         or_right (r t) (l t && z (suc t))
         (and_from (l t) (z (suc t)) c.0
         (up (r (suc t + n) && ands two l (suc t) n) (z (suc t)) (above_n two l r (suc t) (z (suc t)) (is (suc t)).above n)
-        (and_from (r (suc t + n)) (ands two l (suc t) n) (ap r (suc_add t n ∙ sym (add_suc t n)) ∙ b.0) c.1))))
+        (and_from (r (suc t + n)) (ands two l (suc t) n) (ap r (suc-add t n ∙ sym (add-suc t n)) ∙ b.0) c.1))))
 
     now : r t ≡ true → z t ≡ true
     now e =
-        up (r (t + 0) && true) (z t) (above_n two l r t (z t) (is t).above 0) (and_from (r (t + 0)) true (ap r (add_zero t) ∙ e) refl)
+        up (r (t + 0) && true) (z t) (above_n two l r t (z t) (is t).above 0) (and_from (r (t + 0)) true (ap r (add-zero t) ∙ e) refl)
 
     next : (l t ≡ true) × (z (suc t) ≡ true) → z t ≡ true
     next h =
@@ -126,7 +126,7 @@ until_unrolls l r z is t =
         let b = and_parts (r (suc t + n)) (ands two l (suc t) n) e in
         up (r (t + suc n) && (l t && ands two l (suc t) n)) (z t) (above_n two l r t (z t) (is t).above (suc n))
         (and_from (r (t + suc n)) (l t && ands two l (suc t) n)
-        (ap r (add_suc t n ∙ sym (suc_add t n)) ∙ b.0)
+        (ap r (add-suc t n ∙ sym (suc-add t n)) ∙ b.0)
         (and_from (l t) (ands two l (suc t) n) h.0 b.1))))))
         h.1
 
@@ -144,9 +144,9 @@ always_unrolls l z is t =
     refl)
   where
     each : (l t ≡ true) × (z (suc t) ≡ true) → (n : ℕ) → l (t + n) ≡ true
-    each b zero = ap l (add_zero t) ∙ b.0
+    each b zero = ap l (add-zero t) ∙ b.0
     each b (suc n) =
-        ap l (add_suc t n ∙ sym (suc_add t n)) ∙ up (z (suc t)) (l (suc t + n)) (under_n two l (suc t) (z (suc t)) (is (suc t)).under n) b.1
+        ap l (add-suc t n ∙ sym (suc-add t n)) ∙ up (z (suc t)) (l (suc t + n)) (under_n two l (suc t) (z (suc t)) (is (suc t)).under n) b.1
 
 regroup : (a b c d : Bool) → ((a || (b && c)) || (b && d)) ≡ (a || (b && (c || d)))
 regroup true b c d = refl
@@ -188,7 +188,7 @@ module _ (word : Word Bool) where
   row_behaves (Not a) f z row = λ t. row t
   row_behaves (And a b) f z row = λ t. row t
   row_behaves (Or a b) f z row = λ t. row t
-  row_behaves (Next a) f z row = λ t. row t ∙ ap (f a) (add_one t)
+  row_behaves (Next a) f z row = λ t. row t ∙ ap (f a) (add-one t)
   row_behaves (Until a b) f z row = λ t. until_unrolls (f a) (f b) z row t
   row_behaves (WeakUntil a b) f z row = λ t. weak_unrolls (f a) (f b) z row t
   row_behaves (Previous a) f z row = λ t. row t

@@ -1,5 +1,5 @@
 -- The heart of the translation, on sequences of bits: q t is r t, or l t and q (t + 1).
-use Rattle.std.proofs.Common.{◌≡◌, ℕ, zero, suc, ◌+◌, ◌-◌, ◌<◌, ◌≤◌, Bool, true, false, not, ◌&&◌, ◌||◌, ◌⊎◌, sym, refl, ap, ◌∙◌, subst, ap₂, subst₂, inl, inr, true≢false, not_suc_le_zero, add_zero, add_suc, suc_add, zero_add, arith}
+use Rattle.std.proofs.Common.{◌≡◌, ℕ, zero, suc, ◌+◌, ◌-◌, ◌<◌, ◌≤◌, Bool, true, false, not, ◌&&◌, ◌||◌, ◌⊎◌, sym, refl, ap, ◌∙◌, subst, ap₂, subst₂, inl, inr, true≢false, not-suc-le-zero, add-zero, add-suc, suc-add, zero-add, arith}
 use mathlib.Core.Path.{fun_ext}
 use mathlib.Core.Bool.{false≢true}
 use native.Mathlib.Decide.{dec_lt}
@@ -86,8 +86,8 @@ module _ (l r q : Values two) (unrolls : Unrolls l r q) where
   )
 
   walk : (m t : ℕ) → q t ≡ true → (q (t + m) ≡ false) ⊎ (r (t + m) ≡ true) → Reaches l r t
-  walk zero t e (inl a) = absurd (true≢false (sym e ∙ ap q (sym (add_zero t)) ∙ a))
-  walk zero t e (inr a) = here t (ap r (sym (add_zero t)) ∙ a)
+  walk zero t e (inl a) = absurd (true≢false (sym e ∙ ap q (sym (add-zero t)) ∙ a))
+  walk zero t e (inr a) = here t (ap r (sym (add-zero t)) ∙ a)
   walk (suc m) t e s =
       elim (forth t e) [
         | inl a ↦ here t a
@@ -103,11 +103,11 @@ module _ (l r q : Values two) (unrolls : Unrolls l r q) where
 
   -- q is carried back over left
   pub back : (m t : ℕ) → q (t + m) ≡ true → ((i : ℕ) → i < m → l (t + i) ≡ true) → q t ≡ true
-  back zero t e h = ap q (sym (add_zero t)) ∙ e
+  back zero t e h = ap q (sym (add-zero t)) ∙ e
   back (suc m) t e h =
-      left_now t (ap l (sym (add_zero t)) ∙ h 0 (omega arith))
-      (back m (suc t) (ap q (suc_add t m ∙ sym (add_suc t m)) ∙ e)
-      (λ i k. ap l (suc_add t i ∙ sym (add_suc t i)) ∙ h (suc i) (omega arith)))
+      left_now t (ap l (sym (add-zero t)) ∙ h 0 (omega arith))
+      (back m (suc t) (ap q (suc-add t m ∙ sym (add-suc t m)) ∙ e)
+      (λ i k. ap l (suc-add t i ∙ sym (add-suc t i)) ∙ h (suc i) (omega arith)))
 
   -- without the pair: what comes, q claims
   pub claims : (t : ℕ) → Reaches l r t → q t ≡ true
@@ -163,7 +163,7 @@ weak_comes l r l' r' q u hl hr t p is e = is.is_or ∙ go is.until refl
         true≢false (sym (up (r (t + n) && ands two l t n) is.until (above_n two l r t is.until is.is_until.above n) (and_from (r (t + n)) (ands two l t n) a b)) ∙ no_until)
 
     stays : is.until ≡ false → (n : ℕ) → (q (t + n) ≡ true) × (ands two l t n ≡ true)
-    stays no_until zero = (ap q (add_zero t) ∙ e, refl)
+    stays no_until zero = (ap q (add-zero t) ∙ e, refl)
     stays no_until (suc n) = next (stays no_until n)
       where
         next : (q (t + n) ≡ true) × (ands two l t n ≡ true) → (q (t + suc n) ≡ true) × (ands two l t (suc n) ≡ true)
@@ -171,7 +171,7 @@ weak_comes l r l' r' q u hl hr t p is e = is.is_or ∙ go is.until refl
             elim (forth l' r' q u (t + n) h.0) [
               | inl a ↦ absurd (never no_until n (hr (t + n) a) h.1)
               | inr b ↦ (
-                ap q (add_suc t n) ∙ b.1,
+                ap q (add-suc t n) ∙ b.1,
                 ands_last two l t n ∙ and_from (ands two l t n) (l (t + n)) h.1 (hl (t + n) b.0),
               )
             ]

@@ -1,7 +1,7 @@
 -- Finitely many rows pass exactly when the endless run that they stand for is accepting.
-use Rattle.std.proofs.Common.{◌≡◌, ℕ, zero, suc, ◌+◌, ◌-◌, ◌*◌, ◌/◌, ◌%◌, ◌<◌, ◌≤◌, Bool, true, false, not, ◌&&◌, ◌||◌, ltb, ◌⊎◌, ◌↔◌, length, sym, refl, ap, ◌∙◌, subst, ap₂, inl, inr, not_suc_le_zero, arith}
-use Rattle.std.proofs.lemmas.Nat.{div_add_mod'}
-use Rattle.std.proofs.lemmas.Bool.{ltb_true, and_parts}
+use Rattle.std.proofs.Common.{◌≡◌, ℕ, zero, suc, ◌+◌, ◌-◌, ◌*◌, ◌/◌, ◌%◌, ◌<◌, ◌≤◌, Bool, true, false, not, ◌&&◌, ◌||◌, ltb, ◌⊎◌, ◌↔◌, length, sym, refl, ap, ◌∙◌, subst, ap₂, inl, inr, not-suc-le-zero, arith}
+use Rattle.std.proofs.lemmas.Nat.{div-add-mod'}
+use Rattle.std.proofs.lemmas.Bool.{ltb-true, and_parts}
 use Rattle.recording.specs.Kind.{Kind}
 use Rattle.recording.specs.Word.{Word}
 use Rattle.machine.specs.declared.gate.Gate.{Gate}
@@ -30,7 +30,7 @@ module _ (K : Kind) (m : Tables) (wired : Wired m) (word : Word K.Value) (named 
   at_turn : (i : ℕ) → i < word.signals → (t : ℕ) → back ≤ t → word.at i (t + (n - back)) ≡ word.at i t
   at_turn i hi t h =
       let q : ℕ = (n - back) / word.cycle in
-      let e : n - back ≡ q * word.cycle = omega (arith, div_add_mod' (n - back) word.cycle, turns.whole) in
+      let e : n - back ≡ q * word.cycle = omega (arith, div-add-mod' (n - back) word.cycle, turns.whole) in
       ap (λ c. word.at i (t + c)) e ∙ times word i hi q t (omega (arith, turns.stem))
 
   at_row : (i : ℕ) → i < word.signals → (t : ℕ) → word.at i (W t) ≡ word.at i t
@@ -88,7 +88,7 @@ module _ (K : Kind) (m : Tables) (wired : Wired m) (word : Word K.Value) (named 
   -- an accepting run's rows pass
   module _ (p : ℕ) (g : Bits) (acc : Accepting K m word p run g) where
     fits_pair : (a b c : ℕ) → pair_fits c (record { from = a; to = b }) ≡ true → (a < c) × (b < c)
-    fits_pair a b c h = let q = and_parts (ltb a c) (ltb b c) h in (ltb_true a c q.0, ltb_true b c q.1)
+    fits_pair a b c h = let q = and_parts (ltb a c) (ltb b c) h in (ltb-true a c q.0, ltb-true b c q.1)
 
     -- two bits that a gate's operands and the word make the same
     same_reads : (j s t : ℕ) (z : Gate) (v : ℕ) → gate_fits j v z ≡ true → Names word.signals z
@@ -98,14 +98,14 @@ module _ (K : Kind) (m : Tables) (wired : Wired m) (word : Word K.Value) (named 
     same_reads j s t (gate.Signal i) v fit nam low at var b c r q =
         same_bit b c (λ e. q.1 (sym (at i nam) ∙ r.0 e)) (λ e. r.1 (at i nam ∙ q.0 e))
     same_reads j s t (gate.Var i) v fit nam low at var b c r q = r ∙ var i ∙ sym q
-    same_reads j s t (gate.Not a) v fit nam low at var b c r q = r ∙ ap not (low a (ltb_true a j fit)) ∙ sym q
+    same_reads j s t (gate.Not a) v fit nam low at var b c r q = r ∙ ap not (low a (ltb-true a j fit)) ∙ sym q
     same_reads j s t (gate.And x y) v fit nam low at var b c r q =
         let h = fits_pair x y j fit in r ∙ ap₂ ◌&&◌ (low x h.0) (low y h.1) ∙ sym q
     same_reads j s t (gate.Or x y) v fit nam low at var b c r q =
         let h = fits_pair x y j fit in r ∙ ap₂ ◌||◌ (low x h.0) (low y h.1) ∙ sym q
 
     gates_repeat : (l j : ℕ) → j < l → j < length m.gates → (t : ℕ) → back ≤ t → g j (t + (n - back)) ≡ g j t
-    gates_repeat zero j h hj t ht = absurd (not_suc_le_zero h)
+    gates_repeat zero j h hj t ht = absurd (not-suc-le-zero h)
     gates_repeat (suc l) j h hj t ht =
         same_reads j (t + (n - back)) t (gate_at m.gates j) (length m.variables) (wired.gates j hj) (named j hj)
         (λ a ha. gates_repeat l a (omega arith) (omega arith) t ht)
@@ -129,7 +129,7 @@ module _ (K : Kind) (m : Tables) (wired : Wired m) (word : Word K.Value) (named 
 
     equation_back : (z : Variable) (j : ℕ) → variable_fits (length m.gates) z ≡ true → (t : ℕ) → t < n → Equation g z (run j) t (suc t) → Equation g z (rows j) t (after n back t)
     equation_back (variable.Next a) j fit t ht h =
-        ap (rows j) (sym (row_low n back turns.inside t ht)) ∙ h ∙ sym (gate_same a (ltb_true a (length m.gates) fit) (suc t)) ∙ ap (g a) (next_row t ht)
+        ap (rows j) (sym (row_low n back turns.inside t ht)) ∙ h ∙ sym (gate_same a (ltb-true a (length m.gates) fit) (suc t)) ∙ ap (g a) (next_row t ht)
     equation_back (variable.Until a b) j fit t ht h =
         ap (rows j) (sym (row_low n back turns.inside t ht)) ∙ h ∙ ap (λ s. g b t || (g a t && rows j s)) (next_row t ht)
     equation_back (variable.Back a s) j fit t ht h = ap (rows j) (sym (next_row t ht)) ∙ h

@@ -1,8 +1,8 @@
 -- The run that shows the lines' values is a fair run, whose gates show them too.
-use Rattle.std.proofs.Common.{◌≡◌, ℕ, zero, suc, ◌+◌, ◌-◌, ◌*◌, ◌<◌, ◌≤◌, Bool, true, false, cond, not, ◌&&◌, ◌||◌, ◌⊎◌, List, [], ◌∷◌, ◌++◌, length, get_or, replicate, sym, refl, ap, ◌∙◌, subst, ap₂, subst₂, inl, inr, true≢false, not_suc_le_zero, add_zero, arith}
+use Rattle.std.proofs.Common.{◌≡◌, ℕ, zero, suc, ◌+◌, ◌-◌, ◌*◌, ◌<◌, ◌≤◌, Bool, true, false, cond, not, ◌&&◌, ◌||◌, ◌⊎◌, List, [], ◌∷◌, ◌++◌, length, get_or, replicate, sym, refl, ap, ◌∙◌, subst, ap₂, subst₂, inl, inr, true≢false, not-suc-le-zero, add-zero, arith}
 use mathlib.Core.Path.{fun_ext}
 use mathlib.Core.Bool.{false≢true}
-use lib.ListN.{length_replicate}
+use lib.ListN.{length-replicate}
 use Rattle.std.proofs.lemmas.Bool.{or_cases}
 use Rattle.recording.specs.Kinds.{two}
 use Rattle.recording.specs.Word.{Word}
@@ -193,7 +193,7 @@ module _ (x : ℕ → Line) (n r : ℕ) (f : ℕ → Values two) where
               ≡ gate_bit word run bits
               (get_or (gate.Var (name x n r k) ∷ gate.And (place x n r a) (first x n r k) ∷ gate.Or (place x n r b) (first x n r k + 1) ∷ []) i (gate.Const false)) t
           go zero hj = ap (λ l. l t) (sym sh)
-          go (suc zero) hj = ap₂ (λ l r. l t && r t) (sym ea) (sym (at 0 (omega arith)) ∙ ap bits (add_zero (first x n r k)))
+          go (suc zero) hj = ap₂ (λ l r. l t && r t) (sym ea) (sym (at 0 (omega arith)) ∙ ap bits (add-zero (first x n r k)))
           go (suc (suc zero)) hj = be t ∙ ap₂ (λ l r. l t || r t) (sym eb) (sym (at 1 (omega arith)))
           go (suc (suc (suc i))) hj = absurd (omega arith)
 
@@ -270,19 +270,19 @@ module _ (x : ℕ → Line) (n r : ℕ) (f : ℕ → Values two) where
         → (d : Pair) → Often (bits (get_or (one_pair c p q) i d).from) (bits (get_or (one_pair c p q) i d).to)
     the_pair true p q h zero hi d = h refl
     the_pair true p q h (suc i) hi d = absurd (omega arith)
-    the_pair false p q h i hi d = absurd (not_suc_le_zero hi)
+    the_pair false p q h i hi d = absurd (not-suc-le-zero hi)
 
     -- a pair of line k
     pair_row : (k : ℕ) → k < n → (y : Line) → x k ≡ y → Lower k y → ((t : ℕ) → Row two word y f t (f k t))
         → ((s : Sign) → has x n r k s ≡ true → Operands y s (λ a _. bits (place x n r a) ≡ f a))
         → (i : ℕ) → i < length (pairs_of (place x n r) (place x n r k) (has x n r k) y)
         → (d : Pair) → Often (bits (get_or (pairs_of (place x n r) (place x n r k) (has x n r k) y) i d).from) (bits (get_or (pairs_of (place x n r) (place x n r k) (has x n r k) y) i d).to)
-    pair_row k hk (Const b) e lo row ops i hi d = absurd (not_suc_le_zero hi)
-    pair_row k hk (Signal j) e lo row ops i hi d = absurd (not_suc_le_zero hi)
-    pair_row k hk (Not a) e lo row ops i hi d = absurd (not_suc_le_zero hi)
-    pair_row k hk (And a b) e lo row ops i hi d = absurd (not_suc_le_zero hi)
-    pair_row k hk (Or a b) e lo row ops i hi d = absurd (not_suc_le_zero hi)
-    pair_row k hk (Next a) e lo row ops i hi d = absurd (not_suc_le_zero hi)
+    pair_row k hk (Const b) e lo row ops i hi d = absurd (not-suc-le-zero hi)
+    pair_row k hk (Signal j) e lo row ops i hi d = absurd (not-suc-le-zero hi)
+    pair_row k hk (Not a) e lo row ops i hi d = absurd (not-suc-le-zero hi)
+    pair_row k hk (And a b) e lo row ops i hi d = absurd (not-suc-le-zero hi)
+    pair_row k hk (Or a b) e lo row ops i hi d = absurd (not-suc-le-zero hi)
+    pair_row k hk (Next a) e lo row ops i hi d = absurd (not-suc-le-zero hi)
     pair_row k hk (Until a b) e lo row ops i hi d =
         the_pair (has x n r k plus) (place x n r k) (place x n r b)
         (λ h.
@@ -295,10 +295,10 @@ module _ (x : ℕ → Line) (n r : ℕ) (f : ℕ → Values two) where
         subst₂ Often (sym (ops minus h).0) (sym (bits_place k hk (used_of x r n k minus h)))
         (weak_often word.cycle (S k) word.sizes.3 (f a) (f b) (f k) (rep k hk a lo.0) (rep k hk b lo.1) row))
         i hi d
-    pair_row k hk (Previous a) e lo row ops i hi d = absurd (not_suc_le_zero hi)
-    pair_row k hk (WeakPrevious a) e lo row ops i hi d = absurd (not_suc_le_zero hi)
-    pair_row k hk (Since a b) e lo row ops i hi d = absurd (not_suc_le_zero hi)
-    pair_row k hk (WeakSince a b) e lo row ops i hi d = absurd (not_suc_le_zero hi)
+    pair_row k hk (Previous a) e lo row ops i hi d = absurd (not-suc-le-zero hi)
+    pair_row k hk (WeakPrevious a) e lo row ops i hi d = absurd (not-suc-le-zero hi)
+    pair_row k hk (Since a b) e lo row ops i hi d = absurd (not-suc-le-zero hi)
+    pair_row k hk (WeakSince a b) e lo row ops i hi d = absurd (not-suc-le-zero hi)
 
     by_sign : (k : ℕ) → k < n → (s : Sign) → has x n r k s ≡ true → Operands (x k) s (λ a _. bits (place x n r a) ≡ f a)
     by_sign k hk s h =
@@ -377,9 +377,9 @@ module _ (x : ℕ → Line) (n r : ℕ) (f : ℕ → Values two) where
   pub notes_show : (k : ℕ) → k < n → used x n r k ≡ true → memory (x k) ≡ 1 → notes (name x n r k) ≡ shown two (x k) (f k)
   unfolding notes note_lists
   notes_show k hk u one =
-      ap notes (sym (add_zero (name x n r k)))
+      ap notes (sym (add-zero (name x n r k)))
       ∙ joined_at note_lists (λ _. false) (made_variables x n r)
-      (λ k. cond_length (used x n r k) (replicate (memory (x k)) (shown two (x k) (f k))) (memory (x k)) (length_replicate (memory (x k)) (shown two (x k) (f k)))) n k 0 hk
+      (λ k. cond_length (used x n r k) (replicate (memory (x k)) (shown two (x k) (f k))) (memory (x k)) (length-replicate (memory (x k)) (shown two (x k) (f k)))) n k 0 hk
       (omega (arith, variable_count_is x n r k hk u (x k) refl))
       ∙ ap (λ b. get_or (cond b (replicate (memory (x k)) (shown two (x k) (f k))) []) 0 (λ _. false)) u
       ∙ ap (λ m. get_or (replicate m (shown two (x k) (f k))) 0 (λ _. false)) one

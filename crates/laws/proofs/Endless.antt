@@ -1,16 +1,16 @@
 -- Where the positions of an endless run stand among its rows.
-use Rattle.std.proofs.Common.{◌≡◌, ℕ, zero, suc, ◌+◌, ◌-◌, ◌*◌, ◌<◌, ◌≤◌, cond, ltb, ◌⊎◌, sym, refl, ap, ◌∙◌, subst, inl, inr, suc_add, arith}
+use Rattle.std.proofs.Common.{◌≡◌, ℕ, zero, suc, ◌+◌, ◌-◌, ◌*◌, ◌<◌, ◌≤◌, cond, ltb, ◌⊎◌, sym, refl, ap, ◌∙◌, subst, inl, inr, suc-add, arith}
 use native.Mathlib.Decide.{dec_lt}
-use Rattle.std.proofs.lemmas.Bool.{lt_ltb, le_ltb}
+use Rattle.std.proofs.lemmas.Bool.{lt-ltb, le-ltb}
 use Rattle.meaning.proofs.Build.{below_all}
 use Rattle.laws.specs.Runs.{after, row_at}
 
 module _ (n back : ℕ) (inside : back < n) where
   after_next : (i : ℕ) → suc i < n → after n back i ≡ suc i
-  after_next i h = ap (λ b. cond b (suc i) back) (lt_ltb (suc i) n h)
+  after_next i h = ap (λ b. cond b (suc i) back) (lt-ltb (suc i) n h)
 
   after_last : (i : ℕ) → n ≤ suc i → after n back i ≡ back
-  after_last i h = ap (λ b. cond b (suc i) back) (le_ltb (suc i) n h)
+  after_last i h = ap (λ b. cond b (suc i) back) (le-ltb (suc i) n h)
 
   pub after_in : (i : ℕ) → after n back i < n
   after_in i =

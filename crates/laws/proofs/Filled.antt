@@ -1,5 +1,5 @@
 -- Filling in lost values keeps what is settled.
-use Rattle.std.proofs.Common.{◌≡◌, ℕ, zero, suc, ◌+◌, ◌-◌, ◌*◌, ◌<◌, ◌≤◌, Bool, true, false, ◌⊎◌, List, length, sym, refl, ap, ◌∙◌, subst, subst₂, inl, inr, not_suc_le_zero, arith}
+use Rattle.std.proofs.Common.{◌≡◌, ℕ, zero, suc, ◌+◌, ◌-◌, ◌*◌, ◌<◌, ◌≤◌, Bool, true, false, ◌⊎◌, List, length, sym, refl, ap, ◌∙◌, subst, subst₂, inl, inr, not-suc-le-zero, arith}
 use Rattle.recording.specs.Kind.{Kind, AtMost}
 use Rattle.recording.specs.Kinds.{both, either, other, three}
 use Rattle.recording.specs.Word.{Word}
@@ -148,7 +148,7 @@ module _ (B : Kind) where
   module _ (lines : List Line) (sheet : Sheet lines) (gapped : Word Ternary) (full : Word B.Value) (nam : HasSignals lines gapped.signals)
       (fill : Fills B lines gapped full) (f : ℕ → Values three) (vf : Valuation three gapped lines f) (g : ℕ → Values B) (vg : Valuation B full lines g) where
     settled : (n k : ℕ) → k < n → k < length lines → Along (f k) (g k)
-    settled zero k h hk t = absurd (not_suc_le_zero h)
+    settled zero k h hk t = absurd (not-suc-le-zero h)
     settled (suc n) k h hk t =
         row_settles gapped full k (gapped.stem + pasts (line lines) k * gapped.cycle) f g
         (period_below three gapped (line lines) (length lines) sheet nam f vf k (omega arith))

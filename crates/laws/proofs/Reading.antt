@@ -1,5 +1,5 @@
 -- The usual reading of an until, at two values.
-use Rattle.std.proofs.Common.{◌≡◌, ℕ, zero, suc, ◌+◌, ◌-◌, ◌*◌, ◌<◌, ◌≤◌, Bool, true, false, ◌&&◌, ◌||◌, ◌⊎◌, ◌↔◌, List, length, sym, refl, ap, ◌∙◌, subst, ap₂, subst₂, inl, inr, true≢false, not_suc_le_zero, add_zero, add_assoc, add_suc, suc_add, zero_add, arith}
+use Rattle.std.proofs.Common.{◌≡◌, ℕ, zero, suc, ◌+◌, ◌-◌, ◌*◌, ◌<◌, ◌≤◌, Bool, true, false, ◌&&◌, ◌||◌, ◌⊎◌, ◌↔◌, List, length, sym, refl, ap, ◌∙◌, subst, ap₂, subst₂, inl, inr, true≢false, not-suc-le-zero, add-zero, add_assoc, add-suc, suc-add, zero-add, arith}
 use mathlib.Core.Path.{fun_ext}
 use mathlib.Core.Bool.{false≢true}
 use Rattle.std.proofs.lemmas.Bool.{and_parts, and_from, or_cases}

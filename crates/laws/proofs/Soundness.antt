@@ -1,5 +1,5 @@
 -- What an accepting run of the translation claims holds.
-use Rattle.std.proofs.Common.{◌≡◌, ℕ, zero, suc, ◌+◌, ◌-◌, ◌<◌, ◌≤◌, Bool, true, false, cond, not, ◌&&◌, ◌||◌, List, [], ◌∷◌, ◌++◌, length, get_or, sym, refl, ap, ◌∙◌, subst, ap₂, subst₂, not_suc_le_zero, add_zero, arith}
+use Rattle.std.proofs.Common.{◌≡◌, ℕ, zero, suc, ◌+◌, ◌-◌, ◌<◌, ◌≤◌, Bool, true, false, cond, not, ◌&&◌, ◌||◌, List, [], ◌∷◌, ◌++◌, length, get_or, sym, refl, ap, ◌∙◌, subst, ap₂, subst₂, not-suc-le-zero, add-zero, arith}
 use Rattle.recording.specs.Kinds.{two}
 use Rattle.recording.specs.Word.{Word}
 use Rattle.sheet.specs.declared.line.Line.{Line}
@@ -63,7 +63,7 @@ module _ (word : Word Bool) (x : ℕ → Line) (n r : ℕ) (run g : Bits) (is : 
         ∙ row y e 2 (omega arith) t ∙ ap (λ l. gate_bit word run g (get_or l 2 (gate.Const false)) t) v
         ∙ ap (λ q. own b t || q) (row y e 1 (omega arith) t ∙ ap (λ l. gate_bit word run g (get_or l 1 (gate.Const false)) t) v)
         ∙ ap (λ q. own b t || (own a t && q))
-        (ap (λ j. g j t) (sym (add_zero (first x n r k))) ∙ row y e 0 (omega arith) t ∙ ap (λ l. gate_bit word run g (get_or l 0 (gate.Const false)) t) v
+        (ap (λ j. g j t) (sym (add-zero (first x n r k))) ∙ row y e 0 (omega arith) t ∙ ap (λ l. gate_bit word run g (get_or l 0 (gate.Const false)) t) v
         ∙ before_is start (own k) (run (name x n r k)) starts keep t)
       where
         two : size y - 1 ≡ 2
@@ -114,7 +114,7 @@ module _ (word : Word Bool) (x : ℕ → Line) (n r : ℕ) (run g : Bits) (is : 
 
     module _ (low : (k : ℕ) → k < n → Lower k (x k)) (f : ℕ → Values two) (rows : (k : ℕ) → k < n → (t : ℕ) → Row two word (x k) f t (f k t)) where
       pub bound : (m k : ℕ) → k < m → k < n → (s : Sign) → has x n r k s ≡ true → (t : ℕ) → Bound s (own k t) (f k t)
-      bound zero k h hk s e t = absurd (not_suc_le_zero h)
+      bound zero k h hk s e t = absurd (not-suc-le-zero h)
       bound (suc m) k h hk s e t =
           line_bound word (x k) s own f (own k) (f k)
           (behaves k hk (used_of x r n k s e) (x k) refl)

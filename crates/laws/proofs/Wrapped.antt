@@ -1,5 +1,5 @@
 -- A periodic sequence is told by its stem and one cycle; so is the run that shows a valuation.
-use Rattle.std.proofs.Common.{◌≡◌, ℕ, zero, suc, ◌+◌, ◌-◌, ◌*◌, ◌%◌, ◌<◌, ◌≤◌, Bool, true, false, cond, ◌&&◌, ◌||◌, T, ltb, ◌⊎◌, List, [], ◌∷◌, ◌++◌, length, sym, refl, ap, ◌∙◌, subst, ap₂, subst₂, inl, inr, not_suc_le_zero, add_zero, mod_lt, mod_eq_of_lt, suc_add, arith, lt→ltb}
+use Rattle.std.proofs.Common.{◌≡◌, ℕ, zero, suc, ◌+◌, ◌-◌, ◌*◌, ◌%◌, ◌<◌, ◌≤◌, Bool, true, false, cond, ◌&&◌, ◌||◌, T, ltb, ◌⊎◌, List, [], ◌∷◌, ◌++◌, length, sym, refl, ap, ◌∙◌, subst, ap₂, subst₂, inl, inr, not-suc-le-zero, add-zero, mod-lt, mod-eq_of_lt, suc-add, arith, lt→ltb}
 use mathlib.Core.Path.{fun_ext}
 use native.Mathlib.Decide.{dec_lt}
 use Rattle.recording.specs.Kinds.{two}
@@ -23,7 +23,7 @@ back_carried start l r z v S hv pl pr e =
   where
     late : (y : Values two) → Periodic two v S y → Periodic two v (suc S) (before two false y)
     late y p zero h = absurd (omega arith)
-    late y p (suc t) h = ap (before two false y) (suc_add t v) ∙ p t (omega arith)
+    late y p (suc t) h = ap (before two false y) (suc-add t v) ∙ p t (omega arith)
 
 module _ (word : Word Bool) (k S : ℕ) (stem : word.stem ≤ S) (f : ℕ → Values two) (rep : (a : ℕ) → a < k → Periodic two word.cycle S (f a)) (y : Values two) where
   shown_period : (x : Line) → Lower k x → Named word.signals x → ((t : ℕ) → Row two word x f t (y t))

@@ -1,17 +1,17 @@
 -- The names of a line.
 use Rattle.std.proofs.Common.{◌≡◌, ℕ, ◌+◌, ◌-◌, ◌<◌, ◌≤◌, Bool, true, false, eqb, ◌⊎◌, List, [], length, get_or, take, Some, None, Decides, Option, sym, refl, ap, ◌∙◌, subst, inl, inr, arith, Bor}
-use Rattle.std.proofs.lemmas.List.{length_take, get_or_take, take_all}
+use Rattle.std.proofs.lemmas.List.{length-take, get_or-take, take_all}
 use Rattle.std.proofs.lemmas.Bool.Decides.{nat_tests}
 use Rattle.lexer.specs.Names.{names_of, spaced, IsName, NoneBelow, IsFirst, Finds, Good, AllNames, AllDifferent}
 use Rattle.lexer.specs.Parts.{Nth}
 
 pub few : (line : List ℕ) → length (names_of line) ≤ 32
-few line = omega (arith, length_take 32 (spaced line))
+few line = omega (arith, length-take 32 (spaced line))
 
 -- a line has as many names as parts, up to 32
 pub nth_name : (line : List ℕ) (k : ℕ) (r : Option (Bor (List ℕ))) → k < 32 → Nth (spaced line) k r → Nth (names_of line) k r
-nth_name line k None lt h = omega (arith, length_take 32 (spaced line))
-nth_name line k (Some x) lt h = (omega (arith, length_take 32 (spaced line), h.0), h.1 ∙ sym (get_or_take 32 (spaced line) k [] lt))
+nth_name line k None lt h = omega (arith, length-take 32 (spaced line))
+nth_name line k (Some x) lt h = (omega (arith, length-take 32 (spaced line), h.0), h.1 ∙ sym (get_or-take 32 (spaced line) k [] lt))
 
 -- there is one first number at most
 pub first_decides : (ns : List (List ℕ)) (name : List ℕ) (k number : ℕ) → IsFirst ns name k → Decides (eqb k number) (IsFirst ns name number)

@@ -1,6 +1,6 @@
 -- A work that is filled is the translation, and its arrays name what is there.
 use Rattle.std.proofs.Common.{◌≡◌, ℕ, ◌-◌, ◌<◌, ◌≤◌, true, false, List, length, get_or, take, sym, ap, ◌∙◌, subst, arith}
-use Rattle.std.proofs.lemmas.List.{length_take_le, get_or_take}
+use Rattle.std.proofs.lemmas.List.{length-take-le, get_or-take}
 use Rattle.sheet.specs.declared.line.Line.{Line}
 use Rattle.sheet.specs.Table.{Sheet}
 use Rattle.meaning.specs.Sheet.{rule_of}
@@ -30,28 +30,28 @@ module _ (lines : List Line) (w : Work) (sheet : Sheet lines) (some : 0 < length
   wired = subst Wired (sym held_is) (sound lines sheet some few).wired
 
   gc : length (parts w).gates ≡ w.gate_count
-  gc = length_take_le w.gate_count w.gates (omega (arith, w.within.0, w.sized.0))
+  gc = length-take-le w.gate_count w.gates (omega (arith, w.within.0, w.sized.0))
 
   vc : length (parts w).variables ≡ w.variable_count
-  vc = length_take_le w.variable_count w.variables (omega (arith, w.within.1, w.sized.1))
+  vc = length-take-le w.variable_count w.variables (omega (arith, w.within.1, w.sized.1))
 
   pc : length (parts w).pairs ≡ w.pair_count
-  pc = length_take_le w.pair_count w.pairs (omega (arith, w.within.2, w.sized.2))
+  pc = length-take-le w.pair_count w.pairs (omega (arith, w.within.2, w.sized.2))
 
-  pub all_gates_fit : GatesFit w.gate_count w.variable_count w.gates
-  all_gates_fit k h =
+  pub gates_fit : GatesFit w.gate_count w.variable_count w.gates
+  gates_fit k h =
       ap (λ v. gate_fits k v (gate_at w.gates k)) (sym vc)
-      ∙ ap (gate_fits k _) (sym (get_or_take w.gate_count w.gates k (Const false) h)) ∙ wired.gates k (omega (arith, gc))
+      ∙ ap (gate_fits k _) (sym (get_or-take w.gate_count w.gates k (Const false) h)) ∙ wired.gates k (omega (arith, gc))
 
-  pub all_variables_fit : VariablesFit w.variable_count w.gate_count w.variables
-  all_variables_fit j h =
+  pub variables_fit : VariablesFit w.variable_count w.gate_count w.variables
+  variables_fit j h =
       ap (λ g. variable_fits g (variable_at w.variables j)) (sym gc)
-      ∙ ap (variable_fits _) (sym (get_or_take w.variable_count w.variables j (Next 0) h)) ∙ wired.variables j (omega (arith, vc))
+      ∙ ap (variable_fits _) (sym (get_or-take w.variable_count w.variables j (Next 0) h)) ∙ wired.variables j (omega (arith, vc))
 
-  pub all_pairs_fit : PairsFit w.pair_count w.gate_count w.pairs
-  all_pairs_fit j h =
+  pub pairs_fit : PairsFit w.pair_count w.gate_count w.pairs
+  pairs_fit j h =
       ap (λ g. pair_fits g (pair_at w.pairs j)) (sym gc)
-      ∙ ap (pair_fits _) (sym (get_or_take w.pair_count w.pairs j no_pair h)) ∙ wired.pairs j (omega (arith, pc))
+      ∙ ap (pair_fits _) (sym (get_or-take w.pair_count w.pairs j no_pair h)) ∙ wired.pairs j (omega (arith, pc))
 
-  pub root_is_there : place_in w (rule_of lines) < w.gate_count
-  root_is_there = omega (arith, gc, wired.root)
+  pub root_fits : place_in w (rule_of lines) < w.gate_count
+  root_fits = omega (arith, gc, wired.root)

@@ -1,5 +1,5 @@
 -- One line more in a work.
-use Rattle.std.proofs.Common.{◌≡◌, ℕ, suc, ◌+◌, ◌-◌, ◌*◌, ◌<◌, ◌≤◌, Bool, true, false, cond, ◌⊎◌, List, [], ◌∷◌, length, get_or, set, sym, refl, ap, ◌∙◌, subst, inl, inr, add_one, arith, get_or_set_other, get_or_set_same}
+use Rattle.std.proofs.Common.{◌≡◌, ℕ, suc, ◌+◌, ◌-◌, ◌*◌, ◌<◌, ◌≤◌, Bool, true, false, cond, ◌⊎◌, List, [], ◌∷◌, length, get_or, set, sym, refl, ap, ◌∙◌, subst, inl, inr, add-one, arith, get_or-set_other, get_or-set_same}
 use Rattle.sheet.specs.declared.line.Line.{Line}
 use Rattle.sheet.specs.declared.line.Line.TheVariants.{Const, Signal, Not, And, Or, Next, Until, WeakUntil, Previous, WeakPrevious, Since, WeakSince}
 use Rattle.sheet.specs.Table.{line, Lower, Sheet}
@@ -89,11 +89,11 @@ module _ (lines : List Line) (k : ℕ) (w w' : Work) (s : Signs) (sheet : Sheet 
 
   place_now : place_in w' k ≡ place x n r k
   place_now =
-      ap (λ ps. get_or ps k 0) places ∙ get_or_set_same w.places k _ 0 (omega (arith, w.lines))
+      ap (λ ps. get_or ps k 0) places ∙ get_or-set_same w.places k _ 0 (omega (arith, w.lines))
       ∙ ap (λ g. g + (size (x k) - 1)) built.gates
 
   place_old : (j : ℕ) → j < k → place_in w' j ≡ place x n r j
-  place_old j h = ap (λ ps. get_or ps j 0) places ∙ get_or_set_other w.places k j _ 0 (λ e. omega arith) ∙ built.places j h
+  place_old j h = ap (λ ps. get_or ps j 0) places ∙ get_or-set_other w.places k j _ 0 (λ e. omega arith) ∙ built.places j h
 
   pub built_more : Built lines (k + 1) w'
   built_more =
@@ -101,9 +101,9 @@ module _ (lines : List Line) (k : ℕ) (w w' : Work) (s : Signs) (sheet : Sheet 
         parts_are = after
             ∙ (λ i. added (place_in w) (built.gates i) (built.variables i) (signs i) (x k) (built.parts_are i))
             ∙ added_agrees k (place_in w) (place x n r) built.places (first x n r k) (name x n r k) (has x n r k) (x k) (parts_to x n r k) (sheet k below)
-            ∙ ap (parts_to x n r) (sym (add_one k));
-        gates = gates ∙ (λ i. built.gates i + cond (is_used (signs i)) (size (x k)) 0) ∙ ap (first x n r) (sym (add_one k));
-        variables = variables ∙ (λ i. built.variables i + cond (is_used (signs i)) (memory (x k)) 0) ∙ ap (name x n r) (sym (add_one k));
+            ∙ ap (parts_to x n r) (sym (add-one k));
+        gates = gates ∙ (λ i. built.gates i + cond (is_used (signs i)) (size (x k)) 0) ∙ ap (first x n r) (sym (add-one k));
+        variables = variables ∙ (λ i. built.variables i + cond (is_used (signs i)) (memory (x k)) 0) ∙ ap (name x n r) (sym (add-one k));
         places = λ j h. elim (below_suc j k (omega arith)) [ inl a ↦ place_old j a | inr e ↦ subst (λ z. place_in w' z ≡ place x n r z) (sym e) place_now ];
         room = record {
           gates = omega (arith, built.room.gates, cond_le (is_used (told s)) (size (x k)) 3 (size_le (x k)));

@@ -1,14 +1,14 @@
 -- Lists laid one after the other, and where each begins.
-use Rattle.std.proofs.Common.{◌≡◌, ℕ, zero, suc, ◌+◌, ◌-◌, ◌<◌, ◌≤◌, ◌⊎◌, List, [], ◌∷◌, ◌++◌, length, get_or, sym, refl, ap, ◌∙◌, subst, ap₂, inl, inr, not_suc_le_zero, add_zero, add_suc, suc_add, zero_add, arith, length_append}
+use Rattle.std.proofs.Common.{◌≡◌, ℕ, zero, suc, ◌+◌, ◌-◌, ◌<◌, ◌≤◌, ◌⊎◌, List, [], ◌∷◌, ◌++◌, length, get_or, sym, refl, ap, ◌∙◌, subst, ap₂, inl, inr, not-suc-le-zero, add-zero, add-suc, suc-add, zero-add, arith, length-append}
 use native.Mathlib.Decide.{dec_lt}
-use lib.ListN.{get_or_append}
+use lib.ListN.{get_or-append}
 use Rattle.machine.specs.Translation.{total, joined}
 
 pub below_suc : (i n : ℕ) → i < suc n → (i < n) ⊎ (i ≡ n)
 below_suc i n h = elim (dec_lt i n) [ yes a ↦ inl a | no b ↦ inr (omega arith) ]
 
 pub total_le : (c : ℕ → ℕ) (k n : ℕ) → k < n → total c k + c k ≤ total c n
-total_le c k zero h = absurd (not_suc_le_zero h)
+total_le c k zero h = absurd (not-suc-le-zero h)
 total_le c k (suc n) h =
     elim (below_suc k n h) [
       | inl a ↦ (let q : total c k + c k ≤ total c n = total_le c k n a in omega arith)
@@ -17,27 +17,27 @@ total_le c k (suc n) h =
 
 module _ {A : Type 0} where
   pub get_d_after : (s t : List A) (i : ℕ) (d : A) → get_or (s ++ t) (length s + i) d ≡ get_or t i d
-  get_d_after [] t i d = ap (λ m. get_or t m d) (zero_add i)
-  get_d_after (x ∷ s) t i d = ap (λ m. get_or (x ∷ (s ++ t)) m d) (suc_add (length s) i) ∙ get_d_after s t i d
+  get_d_after [] t i d = ap (λ m. get_or t m d) (zero-add i)
+  get_d_after (x ∷ s) t i d = ap (λ m. get_or (x ∷ (s ++ t)) m d) (suc-add (length s) i) ∙ get_d_after s t i d
 
   module _ (l : ℕ → List A) (d : A) (c : ℕ → ℕ) (ec : (k : ℕ) → length (l k) ≡ c k) where
     pub joined_length : (n : ℕ) → length (joined l n) ≡ total c n
     joined_length zero = refl
-    joined_length (suc n) = length_append (joined l n) (l n) ∙ ap₂ ◌+◌ (joined_length n) (ec n)
+    joined_length (suc n) = length-append (joined l n) (l n) ∙ ap₂ ◌+◌ (joined_length n) (ec n)
 
     pub joined_at : (n k i : ℕ) → k < n → i < c k → get_or (joined l n) (total c k + i) d ≡ get_or (l k) i d
-    joined_at zero k i h hi = absurd (not_suc_le_zero h)
+    joined_at zero k i h hi = absurd (not-suc-le-zero h)
     joined_at (suc n) k i h hi =
         elim (below_suc k n h) [
           | inl a ↦
-              get_or_append (joined l n) (l n) d (total c k + i) (omega (arith, total_le c k n a, joined_length n)) ∙ joined_at n k i a hi
+              get_or-append (joined l n) (l n) d (total c k + i) (omega (arith, total_le c k n a, joined_length n)) ∙ joined_at n k i a hi
           | inr e ↦
               ap (λ m. get_or (joined l n ++ l n) (m + i) d) (ap (total c) e ∙ sym (joined_length n)) ∙ get_d_after (joined l n) (l n) i d
               ∙ ap (λ m. get_or (l m) i d) (sym e)
         ]
 
     pub joined_find : (n j : ℕ) → j < length (joined l n) → (k : ℕ) × (i : ℕ) × (k < n) × (i < c k) × (j ≡ total c k + i)
-    joined_find zero j h = absurd (not_suc_le_zero h)
+    joined_find zero j h = absurd (not-suc-le-zero h)
     joined_find (suc n) j h =
         elim (dec_lt j (total c n)) [
           | yes a ↦

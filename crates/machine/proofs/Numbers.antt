@@ -1,5 +1,5 @@
 -- Where a used line's gates, its variable and its pair stand in the translation.
-use Rattle.std.proofs.Common.{◌≡◌, ℕ, zero, suc, ◌+◌, ◌-◌, ◌<◌, ◌≤◌, Bool, true, false, cond, List, [], ◌∷◌, ◌++◌, length, get_or, sym, refl, ap, ◌∙◌, subst, ap₂, add_zero, arith}
+use Rattle.std.proofs.Common.{◌≡◌, ℕ, zero, suc, ◌+◌, ◌-◌, ◌<◌, ◌≤◌, Bool, true, false, cond, List, [], ◌∷◌, ◌++◌, length, get_or, sym, refl, ap, ◌∙◌, subst, ap₂, add-zero, arith}
 use Rattle.sheet.specs.declared.line.Line.{Line}
 use Rattle.sheet.specs.declared.line.Line.TheVariants.{Const, Signal, Not, And, Or, Next, Until, WeakUntil, Previous, WeakPrevious, Since, WeakSince}
 use Rattle.machine.specs.declared.gate.Gate.{Gate}
@@ -126,7 +126,7 @@ module _ (x : ℕ → Line) (n r : ℕ) where
 
     pub variable_is : memory y ≡ 1 → variable_at (translation x n r).variables (name x n r k) ≡ get_or (variables_of (place x n r) (place x n r k) y) 0 (variable.Next 0)
     variable_is one =
-        ap (variable_at (translation x n r).variables) (sym (add_zero (name x n r k)))
+        ap (variable_at (translation x n r).variables) (sym (add-zero (name x n r k)))
         ∙ joined_at (variable_lists x n r) (variable.Next 0) (made_variables x n r) variable_counts n k 0 hk (omega (arith, variable_count_is))
         ∙ ap (λ b. get_or (cond b (variables_of (place x n r) (place x n r k) (x k)) []) 0 (variable.Next 0)) u
         ∙ ap (λ z. get_or (variables_of (place x n r) (place x n r k) z) 0 (variable.Next 0)) e
@@ -144,6 +144,6 @@ module _ (x : ℕ → Line) (n r : ℕ) where
     pub pair_is : pair_at (translation x n r).pairs (total made_pairs k) ≡ p
     pair_is =
         let b : made_pairs k ≡ 1 = ap length e in
-        ap (pair_at (translation x n r).pairs) (sym (add_zero (total made_pairs k)))
+        ap (pair_at (translation x n r).pairs) (sym (add-zero (total made_pairs k)))
         ∙ joined_at (pair_lists x n r) no_pair made_pairs (λ _. refl) n k 0 hk (omega arith)
         ∙ ap (λ l. get_or l 0 no_pair) e

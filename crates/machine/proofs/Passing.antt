@@ -1,9 +1,9 @@
 -- The downward pass: where it starts, and one turn of it.
-use Rattle.std.proofs.Common.{◌≡◌, ℕ, suc, ◌-◌, ◌<◌, ◌≤◌, Bool, true, false, ◌||◌, eqb, ◌⊎◌, List, length, get_or, set, replicate, sym, refl, ap, ◌∙◌, subst, inl, inr, arith, get_or_set_other, get_or_set_same}
+use Rattle.std.proofs.Common.{◌≡◌, ℕ, suc, ◌-◌, ◌<◌, ◌≤◌, Bool, true, false, ◌||◌, eqb, ◌⊎◌, List, length, get_or, set, replicate, sym, refl, ap, ◌∙◌, subst, inl, inr, arith, get_or-set_other, get_or-set_same}
 use mathlib.Core.Path.{fun_ext}
-use lib.ListN.{length_replicate, get_or_eq_default}
-use Rattle.std.proofs.lemmas.List.{get_or_replicate}
-use Rattle.std.proofs.lemmas.Bool.{cases_eq, cases_lt, eq_eqb, ne_eqb}
+use lib.ListN.{length-replicate, get_or-eq_default}
+use Rattle.std.proofs.lemmas.List.{get_or-replicate}
+use Rattle.std.proofs.lemmas.Bool.{cases_eq, cases_lt, eq-eqb, ne_eqb}
 use Rattle.sheet.specs.declared.line.Line.{Line}
 use Rattle.machine.specs.declared.signs.Signs.{Signs}
 use Rattle.machine.specs.Signs.{Sign, plus, minus}
@@ -19,16 +19,16 @@ told_rule b r a minus e x h = ap (λ (y : Signs). y.minus) h
 
 all_alike : (n i : ℕ) (x : Signs) → get_or (replicate n x) i x ≡ x
 all_alike n i x =
-    let l = length_replicate n x in
-    elim (cases_lt i n) [ inl h ↦ get_or_replicate n i x x h | inr h ↦ get_or_eq_default (replicate n x) x (omega arith) ]
+    let l = length-replicate n x in
+    elim (cases_lt i n) [ inl h ↦ get_or-replicate n i x x h | inr h ↦ get_or-eq_default (replicate n x) x (omega arith) ]
 
 -- at first the rule alone has a sign
 pub rule_first : (r : ℕ) → r < 64 → (a : ℕ) (s : Sign) → sign_in (set (replicate 64 unsigned) r positive) a s ≡ rule_sign r a s
 rule_first r h a s =
-    let l = length_replicate 64 unsigned in
+    let l = length-replicate 64 unsigned in
     elim (cases_eq a r) [
-      | inl e ↦ told_rule true r a s (eq_eqb a r e) _ (ap (λ k. get_or (set (replicate 64 unsigned) r positive) k unsigned) e ∙ get_or_set_same (replicate 64 unsigned) r positive unsigned (omega arith))
-      | inr ne ↦ told_rule false r a s (ne_eqb a r ne) _ (get_or_set_other (replicate 64 unsigned) r a positive unsigned ne ∙ all_alike 64 a unsigned)
+      | inl e ↦ told_rule true r a s (eq-eqb a r e) _ (ap (λ k. get_or (set (replicate 64 unsigned) r positive) k unsigned) e ∙ get_or-set_same (replicate 64 unsigned) r positive unsigned (omega arith))
+      | inr ne ↦ told_rule false r a s (ne_eqb a r ne) _ (get_or-set_other (replicate 64 unsigned) r a positive unsigned ne ∙ all_alike 64 a unsigned)
     ]
 
 -- line k - 1 has handed its signs on

@@ -1,6 +1,6 @@
 -- The tables that a machine place holds.
 use Rattle.std.proofs.Common.{◌≡◌, ℕ, ◌<◌, ◌≤◌, true, false, length, sym, subst, arith}
-use Rattle.std.proofs.lemmas.List.{get_or_take, length_take_le}
+use Rattle.std.proofs.lemmas.List.{get_or-take, length-take-le}
 use Rattle.machine.specs.declared.gate.Gate.TheVariants as gate
 use Rattle.machine.specs.declared.gate.Variable.TheVariants as variable
 use Rattle.machine.specs.declared.place.Machine.{Machine}
@@ -9,22 +9,22 @@ use Rattle.machine.specs.Tables.{Wired, Bounded, gate_at, variable_at, pair_at, 
 
 module _ (m : Machine) where
   gates_counted : length (tables m).gates ≡ m.gate_count
-  gates_counted = length_take_le m.gate_count m.gates (omega (arith, m.within.0, m.sized.0))
+  gates_counted = length-take-le m.gate_count m.gates (omega (arith, m.within.0, m.sized.0))
 
   pub variables_counted : length (tables m).variables ≡ m.variable_count
-  variables_counted = length_take_le m.variable_count m.variables (omega (arith, m.within.1, m.sized.1))
+  variables_counted = length-take-le m.variable_count m.variables (omega (arith, m.within.1, m.sized.1))
 
   pairs_counted : length (tables m).pairs ≡ m.pair_count
-  pairs_counted = length_take_le m.pair_count m.pairs (omega (arith, m.within.2, m.sized.2))
+  pairs_counted = length-take-le m.pair_count m.pairs (omega (arith, m.within.2, m.sized.2))
 
   gate_same : (k : ℕ) → k < m.gate_count → gate_at (tables m).gates k ≡ gate_at m.gates k
-  gate_same k h = get_or_take m.gate_count m.gates k (gate.Const false) h
+  gate_same k h = get_or-take m.gate_count m.gates k (gate.Const false) h
 
   variable_same : (j : ℕ) → j < m.variable_count → variable_at (tables m).variables j ≡ variable_at m.variables j
-  variable_same j h = get_or_take m.variable_count m.variables j (variable.Next 0) h
+  variable_same j h = get_or-take m.variable_count m.variables j (variable.Next 0) h
 
   pair_same : (j : ℕ) → j < m.pair_count → pair_at (tables m).pairs j ≡ pair_at m.pairs j
-  pair_same j h = get_or_take m.pair_count m.pairs j no_pair h
+  pair_same j h = get_or-take m.pair_count m.pairs j no_pair h
 
   -- all that they name is there
   pub wired_of : Wired (tables m)

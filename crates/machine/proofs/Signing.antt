@@ -1,10 +1,10 @@
 -- Signs go down: a line hands its signs to its operands.
-use Rattle.std.proofs.Common.{◌≡◌, ℕ, zero, suc, ◌+◌, ◌-◌, ◌<◌, ◌≤◌, Bool, true, false, ◌&&◌, ◌||◌, eqb, ◌⊎◌, List, [], ◌∷◌, ◌++◌, sym, refl, ap, ◌∙◌, subst, ap₂, inl, inr, true≢false, not_suc_le_zero, add_zero, add_suc, suc_add, zero_add, arith}
+use Rattle.std.proofs.Common.{◌≡◌, ℕ, zero, suc, ◌+◌, ◌-◌, ◌<◌, ◌≤◌, Bool, true, false, ◌&&◌, ◌||◌, eqb, ◌⊎◌, List, [], ◌∷◌, ◌++◌, sym, refl, ap, ◌∙◌, subst, ap₂, inl, inr, true≢false, not-suc-le-zero, add-zero, add-suc, suc-add, zero-add, arith}
 use mathlib.Core.Bool.{false≢true}
 use Rattle.sheet.specs.declared.line.Line.{Line}
 use Rattle.sheet.specs.declared.line.Line.TheVariants.{Const, Signal, Not, And, Or, Next, Until, WeakUntil, Previous, WeakPrevious, Since, WeakSince}
 use Rattle.sheet.specs.Table.{Lower}
-use Rattle.std.proofs.lemmas.Bool.{eqb_true, eq_eqb, and_parts, and_from, or_cases, or_left, or_right}
+use Rattle.std.proofs.lemmas.Bool.{eqb-true, eq-eqb, and_parts, and_from, or_cases, or_left, or_right}
 use Rattle.machine.specs.Signs.{Sign, plus, minus, opposite}
 use Rattle.machine.specs.Translation.{hands, rule_sign, signed, has, used}
 
@@ -24,13 +24,13 @@ Operands (Since a b) s P = P a s × P b s
 Operands (WeakSince a b) s P = P a s × P b s
 
 pub eqb_same : (a : ℕ) → eqb a a ≡ true
-eqb_same a = eq_eqb a a refl
+eqb_same a = eq-eqb a a refl
 
 pub either_eq : (a b c : ℕ) → (eqb a b || eqb a c) ≡ true → (a ≡ b) ⊎ (a ≡ c)
-either_eq a b c e = elim (or_cases (eqb a b) (eqb a c) e) [ inl h ↦ inl (eqb_true a b h) | inr h ↦ inr (eqb_true a c h) ]
+either_eq a b c e = elim (or_cases (eqb a b) (eqb a c) e) [ inl h ↦ inl (eqb-true a b h) | inr h ↦ inr (eqb-true a c h) ]
 
 one_lower : (k a b : ℕ) (q : Bool) → b < k → (eqb a b && q) ≡ true → a < k
-one_lower k a b q h e = let w : a ≡ b = eqb_true a b (and_parts (eqb a b) q e).0 in omega arith
+one_lower k a b q h e = let w : a ≡ b = eqb-true a b (and_parts (eqb a b) q e).0 in omega arith
 
 two_lower : (k a b c : ℕ) (q : Bool) → (b < k) × (c < k) → ((eqb a b || eqb a c) && q) ≡ true → a < k
 two_lower k a b c q h e = let w : (a ≡ b) ⊎ (a ≡ c) = either_eq a b c (and_parts (eqb a b || eqb a c) q e).0 in omega (arith, h.0, h.1)
@@ -93,18 +93,18 @@ operands_map (WeakSince b c) k low s P Q h p = (h b s low.0 p.0, h c s low.1 p.1
 
 module _ (x : ℕ → Line) (r : ℕ) where
   lift : (k m a : ℕ) (s : Sign) → signed x r k m a s ≡ true → signed x r 0 (k + m) a s ≡ true
-  lift zero m a s e = subst (λ z. signed x r 0 z a s ≡ true) (sym (zero_add m)) e
+  lift zero m a s e = subst (λ z. signed x r 0 z a s ≡ true) (sym (zero-add m)) e
   lift (suc k) m a s e =
-      subst (λ z. signed x r 0 z a s ≡ true) (add_suc k m ∙ sym (suc_add k m))
+      subst (λ z. signed x r 0 z a s ≡ true) (add-suc k m ∙ sym (suc-add k m))
       (lift k (suc m) a s (or_left (signed x r (suc k) m a s) (hands (x k) (signed x r (suc k) m k) a s) e))
 
   down : (k m a : ℕ) (s : Sign) → ((j : ℕ) → j < k → Lower j (x j)) → k ≤ a → signed x r 0 (k + m) a s ≡ true → signed x r k m a s ≡ true
-  down zero m a s low h e = subst (λ z. signed x r 0 z a s ≡ true) (zero_add m) e
+  down zero m a s low h e = subst (λ z. signed x r 0 z a s ≡ true) (zero-add m) e
   down (suc k) m a s low h e =
       elim
       (or_cases (signed x r (suc k) m a s) (hands (x k) (signed x r (suc k) m k) a s)
       (down k (suc m) a s (λ j hj. low j (omega arith)) (omega arith)
-      (subst (λ z. signed x r 0 z a s ≡ true) (suc_add k m ∙ sym (add_suc k m)) e))) [
+      (subst (λ z. signed x r 0 z a s ≡ true) (suc-add k m ∙ sym (add-suc k m)) e))) [
         | inl q ↦ q
         | inr q ↦
             (let w : a < k = hands_lower (x k) k (low k (omega arith)) (signed x r (suc k) m k) a s q in absurd (omega arith))
@@ -136,7 +136,7 @@ module _ (x : ℕ → Line) (r : ℕ) where
         (handed (x k) (signed x r (suc k) m k) s (own_signs k m e s h))
 
     pub rule_plus : has x n r r plus ≡ true
-    rule_plus = subst (λ z. signed x r 0 z r plus ≡ true) (add_zero n) (lift n 0 r plus (eqb_same r))
+    rule_plus = subst (λ z. signed x r 0 z r plus ≡ true) (add-zero n) (lift n 0 r plus (eqb_same r))
 
   pub used_of : (n k : ℕ) (s : Sign) → has x n r k s ≡ true → used x n r k ≡ true
   used_of n k plus e = or_left (has x n r k plus) (has x n r k minus) e

@@ -1,11 +1,11 @@
 -- The translation's test for signs is right.
-use Rattle.std.proofs.Common.{◌≡◌, ℕ, zero, suc, ◌+◌, ◌-◌, ◌<◌, ◌≤◌, Bool, true, false, ◌&&◌, ◌||◌, eqb, ◌⊎◌, List, length, sym, refl, ap, ◌∙◌, subst, inl, inr, add_zero, add_suc, suc_add, zero_add, arith}
+use Rattle.std.proofs.Common.{◌≡◌, ℕ, zero, suc, ◌+◌, ◌-◌, ◌<◌, ◌≤◌, Bool, true, false, ◌&&◌, ◌||◌, eqb, ◌⊎◌, List, length, sym, refl, ap, ◌∙◌, subst, inl, inr, add-zero, add-suc, suc-add, zero-add, arith}
 use mathlib.Core.Bool.{false≢true}
 use Rattle.sheet.specs.declared.line.Line.{Line}
 use Rattle.sheet.specs.declared.line.Line.TheVariants.{Const, Signal, Not, And, Or, Next, Until, WeakUntil, Previous, WeakPrevious, Since, WeakSince}
 use Rattle.sheet.specs.Table.{line, Lower, Sheet}
 use Rattle.meaning.specs.Sheet.{rule_of}
-use Rattle.std.proofs.lemmas.Bool.{eqb_true, and_parts, or_cases}
+use Rattle.std.proofs.lemmas.Bool.{eqb-true, and_parts, or_cases}
 use Rattle.machine.specs.Signs.{Sign, plus, minus, opposite, HandsOn, HasSign, the_rule, negated, handed_on}
 use Rattle.machine.specs.Translation.{hands, rule_sign, signed, has, SignsAre}
 use Rattle.machine.proofs.Signing.{Operands, either_eq, opposite_twice, closed, rule_plus}
@@ -26,7 +26,7 @@ hands_on (WeakSince b c) s a P p h = elim h [ inl e ↦ subst (λ z. P z s) (sym
 
 module _ (x : ℕ → Line) (n r : ℕ) where
   one : (a b : ℕ) (q : Bool) → (eqb a b && q) ≡ true → (a ≡ b) × (q ≡ true)
-  one a b q e = let w = and_parts (eqb a b) q e in (eqb_true a b w.0, w.1)
+  one a b q e = let w = and_parts (eqb a b) q e in (eqb-true a b w.0, w.1)
 
   two : (a b c : ℕ) (q : Bool) → ((eqb a b || eqb a c) && q) ≡ true → ((a ≡ b) ⊎ (a ≡ c)) × (q ≡ true)
   two a b c q e = let w = and_parts (eqb a b || eqb a c) q e in (either_eq a b c w.0, w.1)
@@ -49,7 +49,7 @@ module _ (x : ℕ → Line) (n r : ℕ) where
   from_line k hk (WeakSince b c) e own ih a s h = let w = two a b c (own s) h in handed_on k a s hk (ih s w.1) (subst (λ y. HandsOn y a) (sym e) w.0)
 
   to_relation : (m k : ℕ) → k + m ≡ n → (a : ℕ) (s : Sign) → signed x r k m a s ≡ true → HasSign x n r a s
-  to_relation zero k e a plus h = subst (λ z. HasSign x n r z plus) (sym (eqb_true a r h)) the_rule
+  to_relation zero k e a plus h = subst (λ z. HasSign x n r z plus) (sym (eqb-true a r h)) the_rule
   to_relation zero k e a minus h = absurd (false≢true h)
   to_relation (suc m) k e a s h =
       elim (or_cases (signed x r (suc k) m a s) (hands (x k) (signed x r (suc k) m k) a s) h) [
@@ -66,6 +66,6 @@ module _ (x : ℕ → Line) (n r : ℕ) where
 
 pub signs_are : (lines : List Line) → Sheet lines → SignsAre lines
 signs_are lines sheet k s = (
-  to_relation (line lines) (length lines) (rule_of lines) (length lines) 0 (zero_add (length lines)) k s,
+  to_relation (line lines) (length lines) (rule_of lines) (length lines) 0 (zero-add (length lines)) k s,
   from_relation (line lines) (length lines) (rule_of lines) sheet k s,
 )

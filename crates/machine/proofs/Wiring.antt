@@ -1,6 +1,6 @@
 -- The tables of a sheet's translation name what is there.
-use Rattle.std.proofs.Common.{◌≡◌, ℕ, zero, suc, ◌+◌, ◌-◌, ◌*◌, ◌<◌, ◌≤◌, Bool, true, false, cond, ◌&&◌, ltb, ◌⊎◌, List, [], ◌∷◌, length, get_or, sym, refl, ap, ◌∙◌, subst, inl, inr, not_suc_le_zero, mul_suc, arith}
-use Rattle.std.proofs.lemmas.Bool.{lt_ltb, and_from, or_cases}
+use Rattle.std.proofs.Common.{◌≡◌, ℕ, zero, suc, ◌+◌, ◌-◌, ◌*◌, ◌<◌, ◌≤◌, Bool, true, false, cond, ◌&&◌, ltb, ◌⊎◌, List, [], ◌∷◌, length, get_or, sym, refl, ap, ◌∙◌, subst, inl, inr, not-suc-le-zero, mul-suc, arith}
+use Rattle.std.proofs.lemmas.Bool.{lt-ltb, and_from, or_cases}
 use Rattle.sheet.specs.declared.line.Line.{Line}
 use Rattle.sheet.specs.declared.line.Line.TheVariants.{Const, Signal, Not, And, Or, Next, Until, WeakUntil, Previous, WeakPrevious, Since, WeakSince}
 use Rattle.sheet.specs.Table.{line, Lower, Sheet}
@@ -19,7 +19,7 @@ use Rattle.machine.proofs.Signing.{Operands, operands_map, closed, used_of, rule
 use Rattle.machine.proofs.SignsAgree.{signs_are}
 
 both_fit : (a b n : ℕ) → a < n → b < n → (ltb a n && ltb b n) ≡ true
-both_fit a b n h g = and_from (ltb a n) (ltb b n) (lt_ltb a n h) (lt_ltb b n g)
+both_fit a b n h g = and_from (ltb a n) (ltb b n) (lt-ltb a n h) (lt-ltb b n g)
 
 module _ (x : ℕ → Line) (n r : ℕ) (low : (k : ℕ) → k < n → Lower k (x k)) where
   abbrev G : ℕ
@@ -56,7 +56,7 @@ module _ (x : ℕ → Line) (n r : ℕ) (low : (k : ℕ) → k < n → Lower k (
 
   three_early : (k a b i : ℕ) → place x n r a < first x n r k → place x n r b < first x n r k → name x n r k < V → i < 3
       → Early k i (get_or (gate.Var (name x n r k) ∷ gate.And (place x n r a) (first x n r k) ∷ gate.Or (place x n r b) (first x n r k + 1) ∷ []) i (gate.Const false))
-  three_early k a b zero ha hb hv hi = lt_ltb _ _ hv
+  three_early k a b zero ha hb hv hi = lt-ltb _ _ hv
   three_early k a b (suc zero) ha hb hv hi = both_fit (place x n r a) (first x n r k) (first x n r k + 1) (omega arith) (omega arith)
   three_early k a b (suc (suc zero)) ha hb hv hi = both_fit (place x n r b) (first x n r k + 1) (first x n r k + 2) (omega arith) (omega arith)
   three_early k a b (suc (suc (suc i))) ha hb hv hi = absurd (omega arith)
@@ -64,23 +64,23 @@ module _ (x : ℕ → Line) (n r : ℕ) (low : (k : ℕ) → k < n → Lower k (
   early : (k i : ℕ) (y : Line) (s : Sign) → Lower k y → (memory y ≡ 1 → name x n r k < V) → Operands y s (Good k) → i < size y → Early k i (get_or (gates_at k y) i (gate.Const false))
   early k zero (Const b) s lo hv ops hi = refl
   early k (suc i) (Const b) s lo hv ops hi = absurd (omega arith)
-  early k zero (Signal j) s lo hv ops hi = lt_ltb j 32 lo
+  early k zero (Signal j) s lo hv ops hi = lt-ltb j 32 lo
   early k (suc i) (Signal j) s lo hv ops hi = absurd (omega arith)
-  early k zero (Not a) s lo hv ops hi = lt_ltb (place x n r a) (first x n r k + 0) (omega (arith, ops.0))
+  early k zero (Not a) s lo hv ops hi = lt-ltb (place x n r a) (first x n r k + 0) (omega (arith, ops.0))
   early k (suc i) (Not a) s lo hv ops hi = absurd (omega arith)
   early k zero (And a b) s lo hv ops hi = both_fit (place x n r a) (place x n r b) (first x n r k + 0) (omega (arith, ops.0.0)) (omega (arith, ops.1.0))
   early k (suc i) (And a b) s lo hv ops hi = absurd (omega arith)
   early k zero (Or a b) s lo hv ops hi = both_fit (place x n r a) (place x n r b) (first x n r k + 0) (omega (arith, ops.0.0)) (omega (arith, ops.1.0))
   early k (suc i) (Or a b) s lo hv ops hi = absurd (omega arith)
-  early k zero (Next a) s lo hv ops hi = lt_ltb _ _ (hv refl)
+  early k zero (Next a) s lo hv ops hi = lt-ltb _ _ (hv refl)
   early k (suc i) (Next a) s lo hv ops hi = absurd (omega arith)
-  early k zero (Until a b) s lo hv ops hi = lt_ltb _ _ (hv refl)
+  early k zero (Until a b) s lo hv ops hi = lt-ltb _ _ (hv refl)
   early k (suc i) (Until a b) s lo hv ops hi = absurd (omega arith)
-  early k zero (WeakUntil a b) s lo hv ops hi = lt_ltb _ _ (hv refl)
+  early k zero (WeakUntil a b) s lo hv ops hi = lt-ltb _ _ (hv refl)
   early k (suc i) (WeakUntil a b) s lo hv ops hi = absurd (omega arith)
-  early k zero (Previous a) s lo hv ops hi = lt_ltb _ _ (hv refl)
+  early k zero (Previous a) s lo hv ops hi = lt-ltb _ _ (hv refl)
   early k (suc i) (Previous a) s lo hv ops hi = absurd (omega arith)
-  early k zero (WeakPrevious a) s lo hv ops hi = lt_ltb _ _ (hv refl)
+  early k zero (WeakPrevious a) s lo hv ops hi = lt-ltb _ _ (hv refl)
   early k (suc i) (WeakPrevious a) s lo hv ops hi = absurd (omega arith)
   early k i (Since a b) s lo hv ops hi = three_early k a b i ops.0.0 ops.1.0 (hv refl) hi
   early k i (WeakSince a b) s lo hv ops hi = three_early k a b i ops.0.0 ops.1.0 (hv refl) hi
@@ -92,38 +92,38 @@ module _ (x : ℕ → Line) (n r : ℕ) (low : (k : ℕ) → k < n → Lower k (
   within k (Not a) s ops own one = absurd (omega arith)
   within k (And a b) s ops own one = absurd (omega arith)
   within k (Or a b) s ops own one = absurd (omega arith)
-  within k (Next a) s ops own one = lt_ltb _ _ ops.1
+  within k (Next a) s ops own one = lt-ltb _ _ ops.1
   within k (Until a b) s ops own one = both_fit _ _ _ ops.0.1 ops.1.1
   within k (WeakUntil a b) s ops own one = both_fit _ _ _ ops.0.1 ops.1.1
-  within k (Previous a) s ops own one = lt_ltb _ _ ops.1
-  within k (WeakPrevious a) s ops own one = lt_ltb _ _ ops.1
-  within k (Since a b) s ops own one = lt_ltb _ _ own
-  within k (WeakSince a b) s ops own one = lt_ltb _ _ own
+  within k (Previous a) s ops own one = lt-ltb _ _ ops.1
+  within k (WeakPrevious a) s ops own one = lt-ltb _ _ ops.1
+  within k (Since a b) s ops own one = lt-ltb _ _ own
+  within k (WeakSince a b) s ops own one = lt-ltb _ _ own
 
   one_end : (b : Bool) (p q : ℕ) → (b ≡ true → (p < G) × (q < G)) → (i : ℕ) → i < length (one_pair b p q) → (d : Pair) → pair_fits G (get_or (one_pair b p q) i d) ≡ true
   one_end true p q h zero hi d = both_fit _ _ _ (h refl).0 (h refl).1
   one_end true p q h (suc i) hi d = absurd (omega arith)
-  one_end false p q h i hi d = absurd (not_suc_le_zero hi)
+  one_end false p q h i hi d = absurd (not-suc-le-zero hi)
 
   abbrev pairs_at : ℕ → Line → List Pair
   pairs_at k y = pairs_of (place x n r) (place x n r k) (has x n r k) y
 
   ends : (k : ℕ) → k < n → (y : Line) → ((s : Sign) → has x n r k s ≡ true → Operands y s (Good k)) → (i : ℕ) → i < length (pairs_at k y) → (d : Pair)
       → pair_fits G (get_or (pairs_at k y) i d) ≡ true
-  ends k hk (Const b) ops i hi d = absurd (not_suc_le_zero hi)
-  ends k hk (Signal j) ops i hi d = absurd (not_suc_le_zero hi)
-  ends k hk (Not a) ops i hi d = absurd (not_suc_le_zero hi)
-  ends k hk (And a b) ops i hi d = absurd (not_suc_le_zero hi)
-  ends k hk (Or a b) ops i hi d = absurd (not_suc_le_zero hi)
-  ends k hk (Next a) ops i hi d = absurd (not_suc_le_zero hi)
+  ends k hk (Const b) ops i hi d = absurd (not-suc-le-zero hi)
+  ends k hk (Signal j) ops i hi d = absurd (not-suc-le-zero hi)
+  ends k hk (Not a) ops i hi d = absurd (not-suc-le-zero hi)
+  ends k hk (And a b) ops i hi d = absurd (not-suc-le-zero hi)
+  ends k hk (Or a b) ops i hi d = absurd (not-suc-le-zero hi)
+  ends k hk (Next a) ops i hi d = absurd (not-suc-le-zero hi)
   ends k hk (Until a b) ops i hi d =
       one_end (has x n r k plus) (place x n r k) (place x n r b) (λ h. (place_in k hk (used_of x r n k plus h), (ops plus h).1.1)) i hi d
   ends k hk (WeakUntil a b) ops i hi d =
       one_end (has x n r k minus) (place x n r a) (place x n r k) (λ h. ((ops minus h).0.1, place_in k hk (used_of x r n k minus h))) i hi d
-  ends k hk (Previous a) ops i hi d = absurd (not_suc_le_zero hi)
-  ends k hk (WeakPrevious a) ops i hi d = absurd (not_suc_le_zero hi)
-  ends k hk (Since a b) ops i hi d = absurd (not_suc_le_zero hi)
-  ends k hk (WeakSince a b) ops i hi d = absurd (not_suc_le_zero hi)
+  ends k hk (Previous a) ops i hi d = absurd (not-suc-le-zero hi)
+  ends k hk (WeakPrevious a) ops i hi d = absurd (not-suc-le-zero hi)
+  ends k hk (Since a b) ops i hi d = absurd (not-suc-le-zero hi)
+  ends k hk (WeakSince a b) ops i hi d = absurd (not-suc-le-zero hi)
 
   gates_wired : (j : ℕ) → j < G → gate_fits j V (gate_at (translation x n r).gates j) ≡ true
   gates_wired j hj =
@@ -167,7 +167,7 @@ module _ (x : ℕ → Line) (n r : ℕ) (low : (k : ℕ) → k < n → Lower k (
 -- at most m for each line
 pub total_most : (c : ℕ → ℕ) (m : ℕ) → ((k : ℕ) → c k ≤ m) → (n : ℕ) → total c n ≤ m * n
 total_most c m h zero = omega arith
-total_most c m h (suc n) = omega (arith, total_most c m h n, h n, mul_suc m n)
+total_most c m h (suc n) = omega (arith, total_most c m h n, h n, mul-suc m n)
 
 counted_le : (b : Bool) (m most : ℕ) → m ≤ most → cond b m 0 ≤ most
 counted_le true m most h = h

@@ -1,5 +1,5 @@
 -- Every sheet has a valuation: it is built line by line, and an until is an or over finitely many samples.
-use Rattle.std.proofs.Common.{◌≡◌, ℕ, zero, suc, ◌+◌, ◌-◌, ◌*◌, ◌<◌, ◌≤◌, length, sym, refl, subst, inl, inr, not_suc_le_zero, arith}
+use Rattle.std.proofs.Common.{◌≡◌, ℕ, zero, suc, ◌+◌, ◌-◌, ◌*◌, ◌<◌, ◌≤◌, length, sym, refl, subst, inl, inr, not-suc-le-zero, arith}
 use native.Mathlib.Decide.{dec_lt}
 use Rattle.recording.specs.Kind.{Kind, AtMost}
 use Rattle.recording.specs.Word.{Word}
@@ -18,7 +18,7 @@ pub below_all : (P : ℕ → Type 0) (v h : ℕ) → 1 ≤ v → v ≤ h → ((n
 below_all P v h hv vh first on n = go (suc n) n (omega arith)
   where
     go : (m n : ℕ) → n < m → P n
-    go zero n k = absurd (not_suc_le_zero k)
+    go zero n k = absurd (not-suc-le-zero k)
     go (suc m) n k = elim (dec_lt n h) [ yes a ↦ first n a | no b ↦ on n (omega arith) (go m (n - v) (omega arith)) ]
 
 module _ (K : Kind) (v S : ℕ) (hv : 1 ≤ v) where
@@ -110,14 +110,14 @@ put_same f (suc n) y = put_same (λ a. f (suc a)) n y
 
 pub put_below : {A : Type 0} (f : ℕ → A) (n : ℕ) (y : A) (a : ℕ) → a < n → put f n y a ≡ f a
 unfolding put
-put_below f zero y a h = absurd (not_suc_le_zero h)
+put_below f zero y a h = absurd (not-suc-le-zero h)
 put_below f (suc n) y zero h = refl
 put_below f (suc n) y (suc a) h = put_below (λ a. f (suc a)) n y a (omega arith)
 
 module _ (K : Kind) (word : Word K.Value) (x : ℕ → Line) where
   unfoldable pub build : (n : ℕ) → ((k : ℕ) → k < n → Lower k (x k)) → ((k : ℕ) → k < n → Named word.signals (x k))
       → (f : ℕ → Values K) × ((k : ℕ) → k < n → (t : ℕ) → Row K word (x k) f t (f k t))
-  build zero low nam = (λ k t. K.No, λ k h. absurd (not_suc_le_zero h))
+  build zero low nam = (λ k t. K.No, λ k h. absurd (not-suc-le-zero h))
   build (suc n) low nam = more (build n (λ k h. low k (omega arith)) (λ k h. nam k (omega arith)))
     where
       more : (f : ℕ → Values K) × ((k : ℕ) → k < n → (t : ℕ) → Row K word (x k) f t (f k t))

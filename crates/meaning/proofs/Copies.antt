@@ -1,5 +1,5 @@
 -- Samples are copied cell by cell.
-use Rattle.std.proofs.Common.{◌≡◌, ℕ, ◌+◌, ◌-◌, ◌*◌, ◌<◌, ◌≤◌, ◌≢◌, List, length, get_or, set, sym, refl, ap, ◌∙◌, subst, arith, get_or_set_other, get_or_set_same}
+use Rattle.std.proofs.Common.{◌≡◌, ℕ, ◌+◌, ◌-◌, ◌*◌, ◌<◌, ◌≤◌, ◌≢◌, List, length, get_or, set, sym, refl, ap, ◌∙◌, subst, arith, get_or-set_other, get_or-set_same}
 use native.Mathlib.Decide.{dec_lt}
 use Rattle.meaning.specs.Cells.{Repeated}
 use Rattle.meaning.proofs.Filling.{same_line, same_sample}
@@ -24,16 +24,16 @@ module _ {V : Type 0} {w v : ℕ} {before : List V} where
             subst (λ s. get_or (set cells (t * w + a) x) (s * w + b) d ≡ get_or before ((s - v) * w + b) d) es
             (elim (dec_lt b a) [
               | yes below ↦
-                  get_or_set_other cells (t * w + a) (t * w + b) x d (λ z. let q : b ≡ a = same_line w t b t a (omega arith) hw z in omega arith)
+                  get_or-set_other cells (t * w + a) (t * w + b) x d (λ z. let q : b ≡ a = same_line w t b t a (omega arith) hw z in omega arith)
                   ∙ r.copies d t b (omega arith) (omega arith) below
               | no above ↦
                   let eb : a ≡ b = omega arith in
                   subst (λ b. get_or (set cells (t * w + a) x) (t * w + b) d ≡ get_or before ((t - v) * w + b) d) eb
-                  (get_or_set_same cells (t * w + a) x d inside ∙ sym (is d)
+                  (get_or-set_same cells (t * w + a) x d inside ∙ sym (is d)
                   ∙ r.others d ((t - v) * w + a) (λ u c h₃ h₄ hc z. let q : t - v ≡ u = same_sample w (t - v) a u c hw (omega arith) z in omega arith))
             ]);
         others = λ d i h.
-            get_or_set_other cells (t * w + a) i x d (λ z. h t a (omega arith) (omega arith) (omega arith) z)
+            get_or-set_other cells (t * w + a) i x d (λ z. h t a (omega arith) (omega arith) (omega arith) z)
             ∙ r.others d i (λ u c h₁ h₂ hc z. h u c h₁ h₂ (omega arith) z);
       })
 

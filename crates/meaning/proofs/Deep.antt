@@ -1,7 +1,7 @@
 -- A line repeats from a cycle after the stem for each level that it is deep, so that no more of it has to be filled.
-use Rattle.std.proofs.Common.{◌≡◌, ℕ, zero, suc, ◌+◌, ◌-◌, ◌*◌, ◌<◌, ◌≤◌, max, List, length, get_or, set, sym, refl, ap, ◌∙◌, subst, add_zero, add_suc, add_mul, add_one, arith, length_set, get_or_set_other, get_or_set_same}
+use Rattle.std.proofs.Common.{◌≡◌, ℕ, zero, suc, ◌+◌, ◌-◌, ◌*◌, ◌<◌, ◌≤◌, max, List, length, get_or, set, sym, refl, ap, ◌∙◌, subst, add-zero, add-suc, add-mul, add-one, arith, length-set, get_or-set_other, get_or-set_same}
 use native.Mathlib.Decide.{dec_lt}
-use Rattle.std.proofs.lemmas.Nat.{mul_add_lt, mul_le}
+use Rattle.std.proofs.lemmas.Nat.{mul-add-lt, mul-le}
 use Rattle.recording.specs.Kind.{Kind}
 use Rattle.recording.specs.Word.{Word, meant}
 use Rattle.sheet.specs.declared.line.Line.{Line}
@@ -52,8 +52,8 @@ pasts_count x zero = omega arith
 pasts_count x (suc k) = omega (arith, pasts_count x k, past_most (x k))
 
 pasts_more : (x : ℕ → Line) (j i : ℕ) → pasts x j ≤ pasts x (j + i)
-pasts_more x j zero = rw (add_zero j) (omega arith)
-pasts_more x j (suc i) = rw (add_suc j i) (omega (arith, pasts_more x j i))
+pasts_more x j zero = rw (add-zero j) (omega arith)
+pasts_more x j (suc i) = rw (add-suc j i) (omega (arith, pasts_more x j i))
 
 pub pasts_mono : (x : ℕ → Line) (j k : ℕ) → j ≤ k → pasts x j ≤ pasts x k
 pasts_mono x j k h =
@@ -78,24 +78,24 @@ module _ (K : Kind) {V : Type 0} (means : V → K.Value) (lines : List Line) (w 
       one_deeper = omega (arith, own_most, past_most (line lines k))
 
       pub deep_few : n + (own - n) ≤ pasts (line lines) (k + 1)
-      deep_few = rw (add_one k) (omega (arith, own_most, deeps.few))
+      deep_few = rw (add-one k) (omega (arith, own_most, deeps.few))
 
       own_repeats : (f : ℕ → Values K) → Valuation K (meant means w) lines f → Periodic K w.cycle (w.stem + own * w.cycle) (f k)
       own_repeats f val t ht =
           let S : ℕ = w.stem + under (λ a. get_or depths a 0) (line lines k) * w.cycle in
           row_over K (meant means w) S (omega arith) f (f k) (line lines k)
           (over_under k (λ a. get_or depths a 0) (line lines k) (sheet k below) (λ a. Periodic K w.cycle S (f a))
-          (λ a ha le s hs. deeps.repeats f val a ha s (omega (arith, mul_le (get_or depths a 0) w.cycle (under (λ a. get_or depths a 0) (line lines k)) w.cycle le (omega arith)))))
+          (λ a ha le s hs. deeps.repeats f val a ha s (omega (arith, mul-le (get_or depths a 0) w.cycle (under (λ a. get_or depths a 0) (line lines k)) w.cycle le (omega arith)))))
           (named k below) (val k below) t
-          (omega (arith, add_mul (under (λ a. get_or depths a 0) (line lines k)) (past (line lines k)) w.cycle))
+          (omega (arith, add-mul (under (λ a. get_or depths a 0) (line lines k)) (past (line lines k)) w.cycle))
 
       pub deep_more : (depth more : ℕ) (after : List ℕ) → depth ≡ own → more ≡ depth - n → after ≡ set depths k depth → Deep K means lines w after (n + more) (k + 1)
       deep_more depth more after ed em ea =
           let there : (a : ℕ) → a < k → get_or after a 0 ≡ get_or depths a 0 =
-          λ a ha. ap (λ l. get_or l a 0) ea ∙ get_or_set_other depths k a depth 0 (λ e. omega arith) in
-          let here : get_or after k 0 ≡ depth = ap (λ l. get_or l k 0) ea ∙ get_or_set_same depths k depth 0 (omega (arith, deeps.sized)) in
+          λ a ha. ap (λ l. get_or l a 0) ea ∙ get_or-set_other depths k a depth 0 (λ e. omega arith) in
+          let here : get_or after k 0 ≡ depth = ap (λ l. get_or l k 0) ea ∙ get_or-set_same depths k depth 0 (omega (arith, deeps.sized)) in
           record {
-            sized = ap length ea ∙ simp length_set deeps.sized;
+            sized = ap length ea ∙ simp length-set deeps.sized;
             bounded = λ a ha.
                 elim (dec_lt a k) [
                   | yes h ↦ omega (arith, there a h, deeps.bounded a h)
@@ -133,7 +133,7 @@ module _ (K : Kind) {V : Type 0} (means : V → K.Value) (lines : List Line) (w 
   -- what lies within the depths n repeats from n cycles after the stem on
   pub steady_by : (depths : List ℕ) (n k S : ℕ) → Deep K means lines w depths n k → S ≡ w.stem + n * w.cycle → Steady S k
   steady_by depths n k S deeps e f val a ha t ht =
-      deeps.repeats f val a ha t (omega (arith, mul_le (get_or depths a 0) w.cycle n w.cycle (deeps.bounded a ha) (omega arith)))
+      deeps.repeats f val a ha t (omega (arith, mul-le (get_or depths a 0) w.cycle n w.cycle (deeps.bounded a ha) (omega arith)))
 
   -- copied samples are as every valuation has them
   pub columns_longer : (n k count : ℕ) (cells after : List V) → k ≤ length lines → w.cycle ≤ n → count ≤ w.cycle → Steady (n - w.cycle) k
@@ -153,14 +153,14 @@ module _ (K : Kind) {V : Type 0} (means : V → K.Value) (lines : List Line) (w 
 pub reach_more : {V : Type 0} {lines : List Line} {w : Word V} {grid : Grid} {n : ℕ} (m : ℕ) → Reach lines w grid n → n + m ≤ pasts (line lines) (length lines)
     → grid.samples + m * w.cycle ≤ horizon lines w
 reach_more {lines = lines} {w = w} {n = n} m r h =
-    omega (arith, r.samples, r.steady, add_mul n m w.cycle, mul_le (n + m) w.cycle (pasts (line lines) (length lines)) w.cycle h (omega arith))
+    omega (arith, r.samples, r.steady, add-mul n m w.cycle, mul-le (n + m) w.cycle (pasts (line lines) (length lines)) w.cycle h (omega arith))
 
 pub reach_longer : {V : Type 0} {lines : List Line} {w : Word V} {grid longer : Grid} {n : ℕ} (m count : ℕ) → Reach lines w grid n → count ≡ m * w.cycle
     → (longer.width ≡ grid.width) × (longer.samples ≡ grid.samples + count) × (longer.steady ≡ grid.steady + count) → Reach lines w longer (n + m)
 reach_longer {w = w} {n = n} m count r e is =
     record {
       width = is.0 ∙ r.width;
-      steady = omega (arith, is.2, r.steady, add_mul n m w.cycle);
+      steady = omega (arith, is.2, r.steady, add-mul n m w.cycle);
       samples = omega (arith, is.1, is.2, r.samples);
     }
 
@@ -168,14 +168,14 @@ reach_longer {w = w} {n = n} m count r e is =
 pub further_longer : {V : Type 0} {width m v lo hi most : ℕ} {cells after : List V} → m ≤ width → hi ≤ most → Repeated width m v lo hi cells after
     → (i : ℕ) → width * most ≤ i → (d : V) → get_or after i d ≡ get_or cells i d
 further_longer {width = width} {hi = hi} {most = most} hm hh copied i h d =
-    copied.others d i (λ t a h₁ h₂ ha e. omega (arith, mul_add_lt t width a hi h₂ (omega arith), mul_le width hi width most (omega arith) hh))
+    copied.others d i (λ t a h₁ h₂ ha e. omega (arith, mul-add-lt t width a hi h₂ (omega arith), mul-le width hi width most (omega arith) hh))
 
 -- all samples of a table that reaches no further than the cells
 pub roomy : {V : Type 0} {lines : List Line} {w : Word V} {grid : Grid} {n : ℕ} (cells : List V) (m : ℕ) → Reach lines w grid n
     → length lines * horizon lines w ≤ length cells → m ≤ horizon lines w → Room cells grid.width m
 roomy {lines = lines} {w = w} cells m r h le =
     subst (λ x. Room cells x m) (sym r.width)
-    (room cells (length lines) m (omega (arith, mul_le (length lines) m (length lines) (horizon lines w) (omega arith) le)))
+    (room cells (length lines) m (omega (arith, mul-le (length lines) m (length lines) (horizon lines w) (omega arith) le)))
 
 -- a grid that does not reach the end has a level to go
 pub level_more : {V : Type 0} {lines : List Line} {w : Word V} {grid : Grid} {n : ℕ} → Reach lines w grid n → grid.steady < steady lines w
@@ -183,14 +183,14 @@ pub level_more : {V : Type 0} {lines : List Line} {w : Word V} {grid : Grid} {n 
 level_more {lines = lines} {w = w} {n = n} r h =
     elim (dec_lt n (pasts (line lines) (length lines))) [
       | yes a ↦ omega arith
-      | no b ↦ absurd (omega (arith, r.steady, mul_le (pasts (line lines) (length lines)) w.cycle n w.cycle (omega arith) (omega arith)))
+      | no b ↦ absurd (omega (arith, r.steady, mul-le (pasts (line lines) (length lines)) w.cycle n w.cycle (omega arith) (omega arith)))
     ]
 
 -- and one that does not lie behind it reaches all samples
 pub reach_all : {V : Type 0} {lines : List Line} {w : Word V} {grid : Grid} {n : ℕ} → Reach lines w grid n → n ≤ pasts (line lines) (length lines)
     → steady lines w ≤ grid.steady → grid.samples ≡ horizon lines w
 reach_all {lines = lines} {w = w} {n = n} r few h =
-    omega (arith, r.samples, r.steady, mul_le n w.cycle (pasts (line lines) (length lines)) w.cycle few (omega arith))
+    omega (arith, r.samples, r.steady, mul-le n w.cycle (pasts (line lines) (length lines)) w.cycle few (omega arith))
 
 -- what a turn of the evaluator's loop may count on: the depth of line k, and how much deeper it is than those below
 pub record Turn {V : Type 0} (lines : List Line) (w : Word V) (grid : Grid) (n depth more : ℕ) : Type 0 where
@@ -208,6 +208,6 @@ turn_is K means lines w sheet named short grid depths n k below reach deeps dept
     record {
       small = omega (arith, own_most K means lines w sheet named depths n k below (omega arith) deeps, past_most (line lines k), deeps.few, pasts_count (line lines) k);
       few = omega (arith, pasts_count (line lines) (k + 1));
-      turn = omega (arith, mul_le more w.cycle 1 w.cycle one (omega arith));
+      turn = omega (arith, mul-le more w.cycle 1 w.cycle one (omega arith));
       within = reach_more more reach (omega (arith, pasts_mono (line lines) (k + 1) (length lines) (omega arith)));
     }

@@ -1,18 +1,18 @@
 -- A column is filled cell by cell.
-use Rattle.std.proofs.Common.{◌≡◌, ℕ, ◌+◌, ◌-◌, ◌*◌, ◌/◌, ◌%◌, ◌<◌, ◌≤◌, ◌≢◌, List, length, get_or, set, sym, refl, ap, ◌∙◌, subst, arith, get_or_set_other, get_or_set_same}
+use Rattle.std.proofs.Common.{◌≡◌, ℕ, ◌+◌, ◌-◌, ◌*◌, ◌/◌, ◌%◌, ◌<◌, ◌≤◌, ◌≢◌, List, length, get_or, set, sym, refl, ap, ◌∙◌, subst, arith, get_or-set_other, get_or-set_same}
 use native.Mathlib.Decide.{dec_lt}
-use Rattle.std.proofs.lemmas.Nat.{mul_add_lt, div_mul_add, mod_mul_add}
+use Rattle.std.proofs.lemmas.Nat.{mul-add-lt, div-mul-add, mod-mul-add}
 use Rattle.meaning.specs.Cells.{Room, column, Fills}
 
 -- different lines or samples have different cells
 pub same_line : (w s j t k : ℕ) → j < w → k < w → s * w + j ≡ t * w + k → j ≡ k
-same_line w s j t k hj hk e = sym (mod_mul_add s w j hj) ∙ ap (λ n. n % w) e ∙ mod_mul_add t w k hk
+same_line w s j t k hj hk e = sym (mod-mul-add s w j hj) ∙ ap (λ n. n % w) e ∙ mod-mul-add t w k hk
 
 pub same_sample : (w s j t k : ℕ) → j < w → k < w → s * w + j ≡ t * w + k → s ≡ t
-same_sample w s j t k hj hk e = sym (div_mul_add s w j hj) ∙ ap (λ n. n / w) e ∙ div_mul_add t w k hk
+same_sample w s j t k hj hk e = sym (div-mul-add s w j hj) ∙ ap (λ n. n / w) e ∙ div-mul-add t w k hk
 
 pub room : {V : Type 0} (cells : List V) (w n : ℕ) → w * n ≤ length cells → Room cells w n
-room cells w n h t k ht hk = omega (arith, mul_add_lt t w k n ht hk)
+room cells w n h t k ht hk = omega (arith, mul-add-lt t w k n ht hk)
 
 module _ {V M : Type 0} (means : V → M) (w k : ℕ) (below : k < w) (before : List V) (y : V → ℕ → M) where
   pub fills_none : (n : ℕ) → Fills means w k before y n n before
@@ -25,11 +25,11 @@ module _ {V M : Type 0} (means : V → M) (w k : ℕ) (below : k < w) (before : 
 
   module _ (n : ℕ) (cells : List V) (x : V) (inside : n * w + k < length cells) (is : (d : V) → means x ≡ y d n) where
     value_here : (d : V) → column means (set cells (n * w + k) x) w k d n ≡ y d n
-    value_here d = ap means (get_or_set_same cells (n * w + k) x d inside) ∙ is d
+    value_here d = ap means (get_or-set_same cells (n * w + k) x d inside) ∙ is d
 
     value_there : (d : V) (t : ℕ) → t ≢ n → column means cells w k d t ≡ y d t → column means (set cells (n * w + k) x) w k d t ≡ y d t
     value_there d t ne e =
-        ap means (get_or_set_other cells (n * w + k) (t * w + k) x d (λ z. ne (same_sample w t k n k below below z))) ∙ e
+        ap means (get_or-set_other cells (n * w + k) (t * w + k) x d (λ z. ne (same_sample w t k n k below below z))) ∙ e
 
     pub fills_more : (lo : ℕ) → lo ≤ n → Fills means w k before y lo n cells → Fills means w k before y lo (n + 1) (set cells (n * w + k) x)
     fills_more lo hlo f =
@@ -40,7 +40,7 @@ module _ {V M : Type 0} (means : V → M) (w k : ℕ) (below : k < w) (before : 
                 | no b ↦ let e : n ≡ t = omega arith in subst (λ s. column means (set cells (n * w + k) x) w k d s ≡ y d s) e (value_here d)
               ];
           others = λ d i h.
-              get_or_set_other cells (n * w + k) i x d (λ e. h n hlo (omega arith) e)
+              get_or-set_other cells (n * w + k) i x d (λ e. h n hlo (omega arith) e)
               ∙ f.others d i (λ t h₁ h₂ e. h t h₁ (omega arith) e);
         }
 
@@ -53,7 +53,7 @@ module _ {V M : Type 0} (means : V → M) (w k : ℕ) (below : k < w) (before : 
                 | no b ↦ let e : n ≡ t = omega arith in subst (λ s. column means (set cells (n * w + k) x) w k d s ≡ y d s) e (value_here d)
               ];
           others = λ d i h.
-              get_or_set_other cells (n * w + k) i x d (λ e. h n (omega arith) hhi e)
+              get_or-set_other cells (n * w + k) i x d (λ e. h n (omega arith) hhi e)
               ∙ f.others d i (λ t h₁ h₂ e. h t (omega arith) h₂ e);
         }
 

@@ -1,5 +1,5 @@
 -- The and and the or of several values.
-use Rattle.std.proofs.Common.{◌≡◌, ℕ, zero, suc, ◌+◌, ◌<◌, ◌≤◌, ◌⊎◌, refl, ap, ◌∙◌, ap₂, inl, inr, not_suc_le_zero, add_zero, add_suc, suc_add, arith}
+use Rattle.std.proofs.Common.{◌≡◌, ℕ, zero, suc, ◌+◌, ◌<◌, ◌≤◌, ◌⊎◌, refl, ap, ◌∙◌, ap₂, inl, inr, not-suc-le-zero, add-zero, add-suc, suc-add, arith}
 use Rattle.recording.specs.Kind.{Kind, AtMost}
 use Rattle.meaning.specs.Sheet.{Values, ands, ors}
 use Rattle.meaning.proofs.Lattice.{at_trans, at_anti, and_left, and_right, at_and, or_left, or_right, or_at, no_at, at_yes}
@@ -15,21 +15,21 @@ module _ (K : Kind) where
   ands_cong l m s t zero e = refl
   ands_cong l m s t (suc n) e =
       ap₂ K.And
-      (rw (add_zero s, add_zero t) at (e 0 (omega arith)))
-      (ands_cong l m (suc s) (suc t) n (λ i h. rw (suc_add s i, suc_add t i, ← add_suc s i, ← add_suc t i) (e (suc i) (omega arith))))
+      (rw (add-zero s, add-zero t) at (e 0 (omega arith)))
+      (ands_cong l m (suc s) (suc t) n (λ i h. rw (suc-add s i, suc-add t i, ← add-suc s i, ← add-suc t i) (e (suc i) (omega arith))))
 
   pub ands_at : (l : Values K) (t n i : ℕ) → i < n → AtMost K (ands K l t n) (l (t + i))
-  ands_at l t zero i h = absurd (not_suc_le_zero h)
-  ands_at l t (suc n) zero h = rw (add_zero t) (and_left K (l t) (ands K l (suc t) n))
+  ands_at l t zero i h = absurd (not-suc-le-zero h)
+  ands_at l t (suc n) zero h = rw (add-zero t) (and_left K (l t) (ands K l (suc t) n))
   ands_at l t (suc n) (suc i) h =
-      at_trans K (and_right K (l t) (ands K l (suc t) n)) (rw (add_suc t i, ← suc_add t i) (ands_at l (suc t) n i (omega arith)))
+      at_trans K (and_right K (l t) (ands K l (suc t) n)) (rw (add-suc t i, ← suc-add t i) (ands_at l (suc t) n i (omega arith)))
 
   pub at_ands : (l : Values K) (t n : ℕ) (p : K.Value) → ((i : ℕ) → i < n → AtMost K p (l (t + i))) → AtMost K p (ands K l t n)
   at_ands l t zero p h = at_yes K p
   at_ands l t (suc n) p h =
       at_and K
-      (rw (add_zero t) at (h 0 (omega arith)))
-      (at_ands l (suc t) n p (λ i k. rw (suc_add t i, ← add_suc t i) (h (suc i) (omega arith))))
+      (rw (add-zero t) at (h 0 (omega arith)))
+      (at_ands l (suc t) n p (λ i k. rw (suc-add t i, ← add-suc t i) (h (suc i) (omega arith))))
 
   pub ands_fewer : (l : Values K) (t m n : ℕ) → m ≤ n → AtMost K (ands K l t n) (ands K l t m)
   ands_fewer l t m n h = at_ands l t m (ands K l t n) (λ i k. ands_at l t n i (omega arith))
@@ -46,7 +46,7 @@ module _ (K : Kind) where
       ]))
 
   pub at_ors : (g : Values K) (n i : ℕ) → i < n → AtMost K (g i) (ors K g n)
-  at_ors g zero i h = absurd (not_suc_le_zero h)
+  at_ors g zero i h = absurd (not-suc-le-zero h)
   at_ors g (suc n) i h =
       elim (below_suc i n h) [
         | inl k ↦ at_trans K (at_ors g n i k) (or_left K (ors K g n) (g n))

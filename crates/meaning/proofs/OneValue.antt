@@ -1,5 +1,5 @@
 -- A row has one value, and depends on the lower lines only.
-use Rattle.std.proofs.Common.{◌≡◌, ℕ, zero, suc, ◌+◌, ◌<◌, List, length, sym, ap, ◌∙◌, ap₂, subst₂, not_suc_le_zero, arith}
+use Rattle.std.proofs.Common.{◌≡◌, ℕ, zero, suc, ◌+◌, ◌<◌, List, length, sym, ap, ◌∙◌, ap₂, subst₂, not-suc-le-zero, arith}
 use mathlib.Core.Path.{fun_ext}
 use Rattle.recording.specs.Kind.{Kind}
 use Rattle.recording.specs.Word.{Word}
@@ -55,7 +55,7 @@ module _ (K : Kind) where
 
     module _ (lines : List Line) (sheet : Sheet lines) (f g : ℕ → Values K) (vf : Valuation K word lines f) (vg : Valuation K word lines g) where
       agree : (n k : ℕ) → k < n → k < length lines → f k ≡ g k
-      agree zero k h hk = absurd (not_suc_le_zero h)
+      agree zero k h hk = absurd (not-suc-le-zero h)
       agree (suc n) k h hk =
           fun_ext
           (λ t.

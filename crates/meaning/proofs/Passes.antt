@@ -1,5 +1,5 @@
 -- An until's value at the steady sample is one pass over a cycle.
-use Rattle.std.proofs.Common.{◌≡◌, ℕ, zero, suc, ◌+◌, ◌-◌, ◌*◌, ◌<◌, ◌≤◌, length, sym, ap, ◌∙◌, subst, ap₂, not_suc_le_zero, add_zero, add_suc, suc_add, arith}
+use Rattle.std.proofs.Common.{◌≡◌, ℕ, zero, suc, ◌+◌, ◌-◌, ◌*◌, ◌<◌, ◌≤◌, length, sym, ap, ◌∙◌, subst, ap₂, not-suc-le-zero, add-zero, add-suc, suc-add, arith}
 use Rattle.recording.specs.Kind.{Kind, AtMost}
 use Rattle.recording.specs.Word.{Word}
 use Rattle.sheet.specs.declared.line.Line.{Line}
@@ -26,11 +26,11 @@ module _ (K : Kind) where
   cand l r t i = K.And (r (t + i)) (ands K l t i)
 
   cand_zero : (l r : Values K) (t : ℕ) → cand l r t 0 ≡ r t
-  cand_zero l r t = K.and_yes (r (t + 0)) ∙ ap r (add_zero t)
+  cand_zero l r t = K.and_yes (r (t + 0)) ∙ ap r (add-zero t)
 
   cand_suc : (l r : Values K) (t i : ℕ) → cand l r t (suc i) ≡ K.And (l t) (cand l r (suc t) i)
   cand_suc l r t i =
-      ap (λ s. K.And (r s) (K.And (l t) (ands K l (suc t) i))) (add_suc t i ∙ sym (suc_add t i))
+      ap (λ s. K.And (r s) (K.And (l t) (ands K l (suc t) i))) (add-suc t i ∙ sym (suc-add t i))
       ∙ sym (K.and_assoc (r (suc t + i)) (l t) (ands K l (suc t) i))
       ∙ ap (λ y. K.And y (ands K l (suc t) i)) (K.and_comm (r (suc t + i)) (l t))
       ∙ K.and_assoc (l t) (r (suc t + i)) (ands K l (suc t) i)
@@ -48,7 +48,7 @@ module _ (K : Kind) where
       at_trans K (at_eq K (K.and_assoc a (l t) (cand l r (suc t) i) ∙ ap (K.And a) (sym (cand_suc l r t i)))) (h (suc i) (omega arith))))))
 
   at_pass : (l r : Values K) (n t i : ℕ) → i < n → AtMost K (cand l r t i) (pass K l r t n K.No)
-  at_pass l r zero t i h = absurd (not_suc_le_zero h)
+  at_pass l r zero t i h = absurd (not-suc-le-zero h)
   at_pass l r (suc n) t zero h = at_trans K (at_eq K (cand_zero l r t)) (or_left K (r t) (K.And (l t) (pass K l r (suc t) n K.No)))
   at_pass l r (suc n) t (suc i) h =
       at_trans K (at_eq K (cand_suc l r t i))
@@ -115,9 +115,9 @@ module _ (K : Kind) where
         (is.greatest (K.And (l t) q) (n_under K l t (K.And (l t) q) each))
       where
         each : (n : ℕ) → AtMost K (K.And (l t) q) (l (t + n))
-        each zero = rw (add_zero t) (and_left K (l t) q)
+        each zero = rw (add-zero t) (and_left K (l t) q)
         each (suc n) =
-            rw (add_suc t n, ← suc_add t n) (at_trans K (and_right K (l t) q) (under_n K l (suc t) q is'.under n))
+            rw (add-suc t n, ← suc-add t n) (at_trans K (and_right K (l t) q) (under_n K l (suc t) q is'.under n))
 
     weak_down : (t : ℕ) (p q : K.Value) → IsWeakUntil K l r t p → IsWeakUntil K l r (suc t) q → p ≡ K.Or (r t) (K.And (l t) q)
     weak_down t p q is is' =

@@ -1,5 +1,5 @@
 -- From some sample on the values of each line repeat.
-use Rattle.std.proofs.Common.{◌≡◌, ℕ, zero, suc, ◌+◌, ◌-◌, ◌*◌, ◌<◌, ◌≤◌, max, length, sym, refl, ap, ◌∙◌, subst, ap₂, subst₂, inl, inr, not_suc_le_zero, add_zero, add_suc, suc_add, zero_add, arith}
+use Rattle.std.proofs.Common.{◌≡◌, ℕ, zero, suc, ◌+◌, ◌-◌, ◌*◌, ◌<◌, ◌≤◌, max, length, sym, refl, ap, ◌∙◌, subst, ap₂, subst₂, inl, inr, not-suc-le-zero, add-zero, add-suc, suc-add, zero-add, arith}
 use Rattle.recording.specs.Kind.{Kind, AtMost}
 use Rattle.recording.specs.Word.{Word}
 use Rattle.sheet.specs.declared.line.Line.{Line}
@@ -100,7 +100,7 @@ module _ (K : Kind) where
   pub weak_carries : (l r : Values K) → Carries l r (λ t. K.Or (since K l r t) (ands K l 0 (suc t)))
   weak_carries l r t =
       ap₂ K.Or (since_carries l r t)
-      (ands_last K l 0 (suc t) ∙ K.and_comm (ands K l 0 (suc t)) (l (0 + suc t)) ∙ ap (λ n. K.And (l n) (ands K l 0 (suc t))) (zero_add (suc t)))
+      (ands_last K l 0 (suc t) ∙ K.and_comm (ands K l 0 (suc t)) (l (0 + suc t)) ∙ ap (λ n. K.And (l n) (ands K l 0 (suc t))) (zero-add (suc t)))
       ∙ K.or_assoc (r (suc t)) (K.And (l (suc t)) (since K l r t)) (K.And (l (suc t)) (ands K l 0 (suc t)))
       ∙ ap (K.Or (r (suc t))) (sym (K.and_over_or (l (suc t)) (since K l r t) (ands K l 0 (suc t))))
 
@@ -116,11 +116,11 @@ module _ (K : Kind) where
   steps : (l r x : Values K) → Carries l r x → (t n : ℕ) → x (t + n) ≡ K.Or (given l r t n) (K.And (kept l t n) (x t))
   unfolding given kept
   steps l r x h t zero =
-      ap x (add_zero t)
+      ap x (add-zero t)
       ∙ sym (K.and_yes (x t)) ∙ K.and_comm (x t) K.Yes
       ∙ sym (no_at K (K.And K.Yes (x t)))
   steps l r x h t (suc n) =
-      ap x (add_suc t n) ∙ h (t + n) ∙ ap (λ y. K.Or (r (suc (t + n))) (K.And (l (suc (t + n))) y)) (steps l r x h t n)
+      ap x (add-suc t n) ∙ h (t + n) ∙ ap (λ y. K.Or (r (suc (t + n))) (K.And (l (suc (t + n))) y)) (steps l r x h t n)
       ∙ step_more K (r (suc (t + n))) (l (suc (t + n))) (given l r t n) (kept l t n) (x t)
 
   -- right and left repeat from the sample after S on
@@ -201,13 +201,13 @@ module _ (K : Kind) (word : Word K.Value) where
         rw e (rep (t + i) (omega arith))
 
     back_period : (start : K.Value) (a : ℕ) → Rep a → ((t : ℕ) → y t ≡ before K start (f a) t) → Periodic K word.cycle (S + word.cycle) y
-    back_period start a rep row zero ht = absurd (not_suc_le_zero one)
+    back_period start a rep row zero ht = absurd (not-suc-le-zero one)
       where
         one : 1 ≤ 0
         one = omega (arith, word.sizes.3)
     back_period start a rep row (suc t) ht =
         row (suc t + word.cycle)
-        ∙ ap (before K start (f a)) (suc_add t word.cycle)
+        ∙ ap (before K start (f a)) (suc-add t word.cycle)
         ∙ rep t (omega (arith, word.sizes.3))
         ∙ sym (row (suc t))
 
@@ -253,7 +253,7 @@ module _ (K : Kind) (word : Word K.Value) where
       (f : ℕ → Values K) (rows : (k : ℕ) → k < n → (t : ℕ) → Row K word (x k) f t (f k t)) where
     -- the values of the lines below k repeat from stem + pasts x k * cycle on
     pub period_below : (k : ℕ) → k ≤ n → (a : ℕ) → a < k → Periodic K word.cycle (word.stem + pasts x k * word.cycle) (f a)
-    period_below zero hk a ha t ht = absurd (not_suc_le_zero ha)
+    period_below zero hk a ha t ht = absurd (not-suc-le-zero ha)
     period_below (suc k) hk a ha t ht =
         elim (below_suc a k ha) [
           | inl h ↦ period_below k (omega arith) a h t (omega arith)

@@ -1,7 +1,7 @@
 -- What is written for a line is its value.
-use Rattle.std.proofs.Common.{◌≡◌, ℕ, zero, suc, ◌+◌, ◌-◌, ◌*◌, ◌<◌, ◌≤◌, ◌⊎◌, List, length, get_or, sym, refl, ap, ◌∙◌, subst, ap₂, inl, inr, not_suc_le_zero, add_zero, add_suc, suc_add, arith}
+use Rattle.std.proofs.Common.{◌≡◌, ℕ, zero, suc, ◌+◌, ◌-◌, ◌*◌, ◌<◌, ◌≤◌, ◌⊎◌, List, length, get_or, sym, refl, ap, ◌∙◌, subst, ap₂, inl, inr, not-suc-le-zero, add-zero, add-suc, suc-add, arith}
 use Rattle.std.proofs.lemmas.Bool.Decides.{nat_tests}
-use Rattle.std.proofs.lemmas.Nat.{mul_add_lt, mul_le}
+use Rattle.std.proofs.lemmas.Nat.{mul-add-lt, mul-le}
 use Rattle.recording.specs.Kind.{Kind}
 use Rattle.recording.specs.Word.{Word, meant}
 use Rattle.sheet.specs.declared.line.Line.{Line}
@@ -51,9 +51,9 @@ module _ (K : Kind) where
 
   -- two passes give what TwoPasses tells
   passed : (l r y : Values K) (down : (t : ℕ) → y t ≡ K.Or (r t) (K.And (l t) (y (suc t)))) (m t : ℕ) → pass K l r t m (y (t + m)) ≡ y t
-  passed l r y down zero t = ap y (add_zero t)
+  passed l r y down zero t = ap y (add-zero t)
   passed l r y down (suc m) t =
-      ap (λ z. K.Or (r t) (K.And (l t) z)) (ap (λ i. pass K l r (suc t) m (y i)) (add_suc t m ∙ sym (suc_add t m)) ∙ passed l r y down m (suc t))
+      ap (λ z. K.Or (r t) (K.And (l t) z)) (ap (λ i. pass K l r (suc t) m (y i)) (add-suc t m ∙ sym (suc-add t m)) ∙ passed l r y down m (suc t))
       ∙ sym (down t)
 
   two_passes : (l r y : Values K) (S v n t : ℕ) (z : K.Value) → n ≡ S + v → t < n → TwoPasses K l r y S v z
@@ -147,11 +147,11 @@ module _ (K : Kind) {V : Type 0} (means : V → K.Value) (lines : List Line) (w 
 -- cells behind the table stay
 pub further_more : {V M : Type 0} {means : V → M} {width k n : ℕ} {y : V → ℕ → M} {cells after : List V} → k < width → Fills means width k cells y 0 n after
     → (i : ℕ) → width * n ≤ i → (d : V) → get_or after i d ≡ get_or cells i d
-further_more {k = k} hk fills i h d = fills.others d i (λ t _ ht e. omega (arith, mul_add_lt t _ k _ ht hk))
+further_more {k = k} hk fills i h d = fills.others d i (λ t _ ht e. omega (arith, mul-add-lt t _ k _ ht hk))
 
 -- how many samples there are at most
 pub few_samples : (stem count cycle : ℕ) → stem ≤ 256 → count ≤ 63 → cycle ≤ 64 → stem + count * cycle + cycle ≤ 4352
-few_samples stem count cycle a b c = omega (arith, mul_le count cycle 63 64 b c)
+few_samples stem count cycle a b c = omega (arith, mul-le count cycle 63 64 b c)
 
 -- the first line does not look back
 first_past : (x : Line) → Lower 0 x → past x ≡ 0
@@ -163,10 +163,10 @@ first_past (Or a b) low = refl
 first_past (Next a) low = refl
 first_past (Until a b) low = refl
 first_past (WeakUntil a b) low = refl
-first_past (Previous a) low = absurd (not_suc_le_zero low)
-first_past (WeakPrevious a) low = absurd (not_suc_le_zero low)
-first_past (Since a b) low = absurd (not_suc_le_zero low.0)
-first_past (WeakSince a b) low = absurd (not_suc_le_zero low.0)
+first_past (Previous a) low = absurd (not-suc-le-zero low)
+first_past (WeakPrevious a) low = absurd (not-suc-le-zero low)
+first_past (Since a b) low = absurd (not-suc-le-zero low.0)
+first_past (WeakSince a b) low = absurd (not-suc-le-zero low.0)
 
 pub pasts_below : (x : ℕ → Line) → Lower 0 (x 0) → (n : ℕ) → pasts x (suc n) ≤ n
 pasts_below x low zero = omega (arith, first_past (x 0) low)

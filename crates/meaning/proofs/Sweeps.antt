@@ -1,5 +1,5 @@
 -- Steps of the passes over columns.
-use Rattle.std.proofs.Common.{◌≡◌, ℕ, suc, ◌+◌, ◌-◌, ◌<◌, ◌≤◌, sym, ap, ◌∙◌, add_one, arith}
+use Rattle.std.proofs.Common.{◌≡◌, ℕ, suc, ◌+◌, ◌-◌, ◌<◌, ◌≤◌, sym, ap, ◌∙◌, add-one, arith}
 use Rattle.std.proofs.lemmas.Bool.Decides.{nat_tests}
 use Rattle.recording.specs.Kind.{Kind}
 use Rattle.meaning.specs.Sheet.{Values, before}
@@ -23,7 +23,7 @@ module _ (K : Kind) where
   pass_none l r n z = let a : n - n ≡ 0 = omega arith in ap (λ m. pass K l r n m z) (sym a)
 
   pub carried_next : (l r : Values K) (z : K.Value) (t : ℕ) → carried K l r z (suc t) ≡ carried K l r z (t + 1)
-  carried_next l r z t = ap (carried K l r z) (sym (add_one t))
+  carried_next l r z t = ap (carried K l r z) (sym (add-one t))
 
   pub before_next : (l : Values K) (z : K.Value) (t : ℕ) → l t ≡ before K z l (t + 1)
-  before_next l z t = ap (before K z l) (sym (add_one t))
+  before_next l z t = ap (before K z l) (sym (add-one t))

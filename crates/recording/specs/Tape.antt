@@ -1,7 +1,7 @@
 -- Tapes: a mask of 32 bits for each sample of the stem and of the cycle; bit i of mask t is signal i at sample t.
 use Rattle.std.specs.Prelude.{◌≡◌, ℕ, ◌+◌, ◌-◌, ◌/◌, ◌%◌, ◌^◌, ◌<◌, ◌≤◌, min, Bool, false, List, length, ◌==◌, slice_index}
 use Rattle.std.proofs.Common.{ap, ◌∙◌, arith}
-use Rattle.std.proofs.Math.Nat.{add_mod_right, mod_le}
+use Rattle.std.proofs.Math.Nat.{add-mod_right, mod-le}
 use Rattle.recording.specs.Word.{Sizes, Word}
 
 -- the sample below stem + cycle that sample t comes again from: t itself in the stem, where t - stem is 0
@@ -24,8 +24,8 @@ pub record Fits (signals stem cycle : ℕ) (masks : List ℕ) : Type 0 where
 
 pub place_repeats : (stem cycle t : ℕ) → 1 ≤ cycle → stem ≤ t → place stem cycle (t + cycle) ≡ place stem cycle t
 place_repeats stem cycle t some past =
-    let turn : (t + cycle - stem) % cycle ≡ (t - stem) % cycle = ap (λ n. n % cycle) (omega arith) ∙ add_mod_right (t - stem) cycle in
-    let below : (t - stem) % cycle ≤ t - stem = mod_le (t - stem) cycle in
+    let turn : (t + cycle - stem) % cycle ≡ (t - stem) % cycle = ap (λ n. n % cycle) (omega arith) ∙ add-mod_right (t - stem) cycle in
+    let below : (t - stem) % cycle ≤ t - stem = mod-le (t - stem) cycle in
     omega arith
 
 -- the word of a tape

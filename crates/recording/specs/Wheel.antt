@@ -1,7 +1,7 @@
 -- Wheels: a toothed wheel that turns by a tooth each sample, seen by two signals.
 use Rattle.std.specs.Prelude.{◌≡◌, ℕ, zero, suc, ◌+◌, ◌-◌, ◌%◌, ◌<◌, ◌≤◌, Bool, ltb, ◌==◌, nat_eq, nat_lt}
 use Rattle.std.proofs.Common.{ap, ◌∙◌, arith}
-use Rattle.std.proofs.Math.Nat.{add_mod_right}
+use Rattle.std.proofs.Math.Nat.{add-mod_right}
 use Rattle.recording.specs.Word.{Sizes, Word}
 
 -- 2 to 64 teeth, a gap of 1 to teeth - 1, and a start below teeth
@@ -18,7 +18,7 @@ wheel_value teeth gap start zero t = nat_lt (tooth teeth start t) (teeth - gap)
 wheel_value teeth gap start (suc i) t = tooth teeth start t == 0
 
 pub tooth_repeats : (teeth start t : ℕ) → tooth teeth start (t + teeth) ≡ tooth teeth start t
-tooth_repeats teeth start t = ap (λ n. n % teeth) (omega arith) ∙ add_mod_right (t + start) teeth
+tooth_repeats teeth start t = ap (λ n. n % teeth) (omega arith) ∙ add-mod_right (t + start) teeth
 
 pub wheel_repeats : (teeth gap start i t : ℕ) → wheel_value teeth gap start i (t + teeth) ≡ wheel_value teeth gap start i t
 wheel_repeats teeth gap start zero t = ap (λ n. ltb n (teeth - gap)) (tooth_repeats teeth start t)

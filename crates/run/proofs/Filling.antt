@@ -1,5 +1,5 @@
 -- Rows are filled line by line, sample by sample.
-use Rattle.std.proofs.Common.{◌≡◌, ℕ, zero, suc, ◌+◌, ◌-◌, ◌*◌, ◌^◌, ◌<◌, ◌≤◌, Bool, true, false, cond, ◌&&◌, ◌||◌, ◌⊎◌, ◌↔◌, List, length, get_or, set, sym, refl, ap, ◌∙◌, subst, ap₂, inl, inr, true≢false, add_zero, add_one, arith, get_or_set_other, get_or_set_same}
+use Rattle.std.proofs.Common.{◌≡◌, ℕ, zero, suc, ◌+◌, ◌-◌, ◌*◌, ◌^◌, ◌<◌, ◌≤◌, Bool, true, false, cond, ◌&&◌, ◌||◌, ◌⊎◌, ◌↔◌, List, length, get_or, set, sym, refl, ap, ◌∙◌, subst, ap₂, inl, inr, true≢false, add-zero, add-one, arith, get_or-set_other, get_or-set_same}
 use mathlib.Core.Bool.{false≢true}
 use Rattle.recording.specs.Kind.{Kind}
 use Rattle.recording.specs.Tape.{bit}
@@ -48,11 +48,11 @@ module _ (lines : List Line) (signs : List Signs) (signed : SignsOf lines signs)
       packed_more b is tells =
           let w = both (is_used k) m (memory (line lines k)) has (ap (λ u. u && m) (sym (told_used k)) ∙ is) in
           let count : made_variables (line lines) (length lines) (rule_of lines) k ≡ 1 = ap₂ (λ u n. cond u n 0) w.0 w.1 in
-          let next : name + 1 ≡ names lines (k + 1) = ap₂ ◌+◌ named (sym count) ∙ ap (names lines) (sym (add_one k)) in
+          let next : name + 1 ≡ names lines (k + 1) = ap₂ ◌+◌ named (sym count) ∙ ap (names lines) (sym (add-one k)) in
           let small : row < 2 ^ name = subst (λ n. row < 2 ^ n) (sym named) packed.below in (
             record {
               shows = λ d j hj u one.
-                  elim (below_suc j k (subst (λ n. j < n) (add_one k) hj)) [
+                  elim (below_suc j k (subst (λ n. j < n) (add-one k) hj)) [
                     | inl a ↦
                         let lower : names lines j < name =
                         omega (arith, total_le (made_variables (line lines) (length lines) (rule_of lines)) j k a, ap₂ (λ v n. cond v n 0) u one, named) in
@@ -73,10 +73,10 @@ module _ (lines : List Line) (signs : List Signs) (signed : SignsOf lines signs)
       pub packed_same : test ≡ false → Packed K means lines cells (k + 1) t row × (name ≡ names lines (k + 1))
       packed_same isnt =
           let w = not_both (is_used k) m (memory (line lines k)) has (ap (λ u. u && m) (sym (told_used k)) ∙ isnt) in
-          let next : name ≡ names lines (k + 1) = named ∙ sym (add_zero (names lines k)) ∙ ap (names lines k +◌) (sym w.0) ∙ ap (names lines) (sym (add_one k)) in (
+          let next : name ≡ names lines (k + 1) = named ∙ sym (add-zero (names lines k)) ∙ ap (names lines k +◌) (sym w.0) ∙ ap (names lines) (sym (add-one k)) in (
             record {
               shows = λ d j hj u one.
-                  elim (below_suc j k (subst (λ n. j < n) (add_one k) hj)) [
+                  elim (below_suc j k (subst (λ n. j < n) (add-one k) hj)) [
                     | inl a ↦ packed.shows d j a u one
                     | inr e ↦ absurd (w.1 (ap is_used (sym e) ∙ u) (ap (λ i. memory (line lines i)) (sym e) ∙ one))
                   ];
@@ -92,10 +92,10 @@ module _ (K : Kind) {V : Type 0} (means : V → K.Value) (lines : List Line) (ce
   rows_more t row inside so_far here =
       record {
         rows = λ s hs.
-            elim (below_suc s t (subst (λ n. s < n) (add_one t) hs)) [
-              | inl a ↦ subst (Packed K means lines cells (length lines) s) (sym (get_or_set_other rows t s row 0 (λ e. omega arith))) (so_far.rows s a)
+            elim (below_suc s t (subst (λ n. s < n) (add-one t) hs)) [
+              | inl a ↦ subst (Packed K means lines cells (length lines) s) (sym (get_or-set_other rows t s row 0 (λ e. omega arith))) (so_far.rows s a)
               | inr e ↦ subst (λ i. Packed K means lines cells (length lines) i (get_or (set rows t row) i 0)) (sym e)
-                  (subst (Packed K means lines cells (length lines) t) (sym (get_or_set_same rows t row 0 inside)) here)
+                  (subst (Packed K means lines cells (length lines) t) (sym (get_or-set_same rows t row 0 inside)) here)
             ];
-        further = λ s hs. get_or_set_other rows t s row 0 (λ e. omega arith) ∙ so_far.further s (omega arith);
+        further = λ s hs. get_or-set_other rows t s row 0 (λ e. omega arith) ∙ so_far.further s (omega arith);
       }

@@ -1,7 +1,7 @@
 -- One call further.
 use Rattle.std.proofs.Common.{◌≡◌, ℕ, ◌+◌, ◌<◌, ◌≤◌, List, [], ◌∷◌, ◌++◌, length, get_or, take, drop, set, fold, sym, refl, ap, ◌∙◌, subst, subst₂, arith}
 use native.Mathlib.Decide.{dec_le, dec_lt}
-use Rattle.std.proofs.lemmas.List.{take_more, take_more_set, take_all, take_take, length_take_le, drop_all, drop_set_lt, drop_drop}
+use Rattle.std.proofs.lemmas.List.{take_more, take_more_set, take_all, take-take, length-take-le, drop_all, drop-set-lt, drop-drop}
 use Rattle.std.proofs.lemmas.List.Sums.{fold_more}
 use Rattle.recording.specs.Kind.{Kind}
 use Rattle.sheet.specs.Ledger.{Ledger}
@@ -43,8 +43,8 @@ pub law_all : (K B : Kind) (l : Ledger) (cs cs' : List Call) (i : ℕ) → i ≤
 law_all K B l cs cs' i some is law =
     subst (Throughout K B l) (sym is)
     (λ n h.
-    let most : n ≤ i = omega (arith, length_take_le i cs some) in
-    subst (λ (x : List Call). WhileSealed K B (after l x)) (sym (take_take n i cs most)) (law n most))
+    let most : n ≤ i = omega (arith, length-take-le i cs some) in
+    subst (λ (x : List Call). WhileSealed K B (after l x)) (sym (take-take n i cs most)) (law n most))
 
 -- as many as there is room for
 pub take_room : {A : Type 0} (xs : List A) (n i : ℕ) → i ≤ n → i ≤ length xs → (i < n → length xs ≤ i) → take n xs ≡ take i xs
@@ -63,7 +63,7 @@ drop_room xs ys n i same a h e =
 
 pub drop_more : {A : Type 0} (xs ys zs : List A) (i : ℕ) (a : A) → zs ≡ set ys i a → drop i ys ≡ drop i xs → drop (i + 1) zs ≡ drop (i + 1) xs
 drop_more xs ys zs i a is e =
-    ap (drop (i + 1)) is ∙ drop_set_lt (i + 1) ys i a (omega arith) ∙ sym (drop_drop 1 i ys) ∙ ap (drop 1) e ∙ drop_drop 1 i xs
+    ap (drop (i + 1)) is ∙ drop-set-lt (i + 1) ys i a (omega arith) ∙ sym (drop-drop 1 i ys) ∙ ap (drop 1) e ∙ drop-drop 1 i xs
 
 module _ {V W : Type 0} (h : Heard V) (b : Heard W) where
   story_snoc : (l : Ledger) (s t u : Lent V W) (cs : List Call) (zs : List (Answer V W)) (c : Call) (a : Answer V W)

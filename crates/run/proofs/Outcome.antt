@@ -1,6 +1,6 @@
 -- The rows that are packed from judged cells are the run that is written out.
 use Rattle.std.proofs.Common.{◌≡◌, ℕ, zero, suc, ◌+◌, ◌-◌, ◌*◌, ◌^◌, ◌<◌, ◌≤◌, true, ◌↔◌, List, length, get_or, take, sym, refl, ap, ◌∙◌, subst, arith}
-use Rattle.std.proofs.lemmas.List.{length_take, length_take_le, get_or_take}
+use Rattle.std.proofs.lemmas.List.{length-take, length-take-le, get_or-take}
 use Rattle.recording.specs.Kind.{Kind, TwoValued}
 use Rattle.recording.specs.Word.{Word, meant}
 use Rattle.recording.proofs.Bits.{within_small}
@@ -73,8 +73,8 @@ module _ (K : Kind) (only : TwoValued K) {V : Type 0} (means : V → K.Value) (l
         others =
             within_small (length (translate lines).variables) (take (horizon lines w) rows')
             (λ t ht.
-            let in_rows : t < horizon lines w = omega (arith, length_take (horizon lines w) rows') in
-            subst (λ r. r < 2 ^ length (translate lines).variables) (sym (get_or_take (horizon lines w) rows' t 0 in_rows))
+            let in_rows : t < horizon lines w = omega (arith, length-take (horizon lines w) rows') in
+            subst (λ r. r < 2 ^ length (translate lines).variables) (sym (get_or-take (horizon lines w) rows' t 0 in_rows))
             (subst (λ n. get_or rows' t 0 < 2 ^ n) (sym (variables_are lines)) (packed.rows t in_rows).below));
         further = packed.further;
         as_long = long;

@@ -1,5 +1,5 @@
 -- No recording is made of numbers past 32 bits.
-use Rattle.std.proofs.Common.{◌≡◌, ℕ, ◌-◌, ◌^◌, ◌<◌, ◌≤◌, min, List, length, get_or, Some, None, Ok, Err, vec_items, Option, Result, Vec, sym, ap, ◌∙◌, subst, map_id, arith, pow_mono}
+use Rattle.std.proofs.Common.{◌≡◌, ℕ, ◌-◌, ◌^◌, ◌<◌, ◌≤◌, min, List, length, get_or, Some, None, Ok, Err, vec_items, Option, Result, Vec, sym, ap, ◌∙◌, subst, map-id, arith, pow_mono}
 use Rattle.std.specs.declared.alloc.Global.{Global}
 use Rattle.recording.proofs.Bits.{small_within}
 use Rattle.recording.specs.Made.{TapeMade, GappedMade, WheelMade}
@@ -25,7 +25,7 @@ no_masks signals stem cycle masks o e n =
 
 -- numbers that were narrowed are the same
 pub same_numbers : (past : ℕ) (ns xs : List ℕ) (o : Option (Vec ℕ Global)) (v : Vec ℕ Global) → xs ≡ vec_items v → o ≡ Some v → Narrowed past (λ x. x) ns o → xs ≡ ns
-same_numbers past ns xs o v e is n = e ∙ sym (map_id (vec_items v)) ∙ subst (Narrowed past (λ x. x) ns) is n
+same_numbers past ns xs o v e is n = e ∙ sym (map-id (vec_items v)) ∙ subst (Narrowed past (λ x. x) ns) is n
 
 -- sizes, each of which counts as the largest number of 32 bits where it is past them
 module _ (a b c a' b' c' : ℕ) (is_a : a' ≡ min a (2 ^ 32 - 1)) (is_b : b' ≡ min b (2 ^ 32 - 1)) (is_c : c' ≡ min c (2 ^ 32 - 1)) where

@@ -1,5 +1,5 @@
 -- The lines of a draft, as many as its count, and what the ledger answers and leaves in each case.
-use Rattle.std.proofs.Common.{◌≡◌, ℕ, zero, suc, ◌+◌, ◌-◌, ◌<◌, ◌≤◌, Bool, true, false, ◌&&◌, eqb, ltb, ◌≢◌, List, [], ◌∷◌, ◌++◌, map, length, get_or, take, set, Some, None, Option, sym, refl, ap, ◌∙◌, subst, arith, length_take_le, get_or_set_other, get_or_take, get_or_set_same, take_take, below_more}
+use Rattle.std.proofs.Common.{◌≡◌, ℕ, zero, suc, ◌+◌, ◌-◌, ◌<◌, ◌≤◌, Bool, true, false, ◌&&◌, eqb, ltb, ◌≢◌, List, [], ◌∷◌, ◌++◌, map, length, get_or, take, set, Some, None, Option, sym, refl, ap, ◌∙◌, subst, arith, length-take-le, get_or-set_other, get_or-take, get_or-set_same, take-take, below_more}
 use Rattle.std.proofs.lemmas.List.{take_more_set}
 use Rattle.std.proofs.lemmas.Bool.{and_parts}
 use Rattle.std.proofs.lemmas.Bool.Decides.{nat_tests}
@@ -12,20 +12,20 @@ use Rattle.sheet.specs.Table.{lines_with, named_line, operands_of, fits, blank, 
 use Rattle.sheet.proofs.Lowering.{fits_lower}
 
 pub length_lines : (d : Draft) → length (lines_of d) ≡ d.count
-length_lines d = length_take_le d.count d.lines (omega (arith, d.room, d.whole))
+length_lines d = length-take-le d.count d.lines (omega (arith, d.room, d.whole))
 
 -- a line above those of a draft, put there
 pub lower_more : (d : Draft) (l : Line) → d.count < 64 → fits d.count l ≡ true → (k : ℕ) → k < d.count + 1 → fits k (get_or (set d.lines d.count l) k blank) ≡ true
 lower_more d l h f =
     below_more _ _
-    (λ k below. let ne : k ≢ d.count = omega arith in rw (get_or_set_other d.lines d.count k l blank ne) (d.lower k below))
-    (rw (get_or_set_same d.lines d.count l blank (omega (arith, d.whole))) f)
+    (λ k below. let ne : k ≢ d.count = omega arith in rw (get_or-set_other d.lines d.count k l blank ne) (d.lower k below))
+    (rw (get_or-set_same d.lines d.count l blank (omega (arith, d.whole))) f)
 
 -- the lines of a draft name lower lines
 pub draft_sheet : (d : Draft) → Sheet (lines_of d)
 draft_sheet d k h =
     let below : k < d.count = omega (arith, length_lines d) in
-    subst (Lower k) (sym (get_or_take d.count d.lines k blank below)) (fits_lower k (get_or d.lines k blank) (d.lower k below))
+    subst (Lower k) (sym (get_or-take d.count d.lines k blank below)) (fits_lower k (get_or d.lines k blank) (d.lower k below))
 
 -- P of each item of a list
 abbrev All : {A : Type 0} → (A → Type 0) → List A → Type 0
@@ -66,5 +66,5 @@ write_done d c a b l e f h =
 pub strike_done : (d : Draft) → 0 < d.count → (Done, record { lines = take (d.count - 1) d.lines; form = Drafted }) ≡ fed (drafted d) Strike
 strike_done d h =
     let t : eqb d.count 0 ≡ false = grind (arith, nat_tests) in
-    let m : take (d.count - 1) (lines_of d) ≡ take (d.count - 1) d.lines = take_take (d.count - 1) d.count d.lines (omega arith) in
+    let m : take (d.count - 1) (lines_of d) ≡ take (d.count - 1) d.lines = take-take (d.count - 1) d.count d.lines (omega arith) in
     simp (length_lines d, t, m)

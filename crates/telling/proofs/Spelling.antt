@@ -1,6 +1,6 @@
 -- One item more of a text, one row more of the samples.
-use Rattle.std.proofs.Common.{◌≡◌, ℕ, zero, suc, ◌+◌, ◌-◌, ◌<◌, min, List, [], ◌∷◌, ◌++◌, length, get_or, take, drop, sym, refl, ap, ◌∙◌, append_assoc, append_nil, add_one, arith, drop_cons}
-use lib.Seq.{drop_length}
+use Rattle.std.proofs.Common.{◌≡◌, ℕ, zero, suc, ◌+◌, ◌-◌, ◌<◌, min, List, [], ◌∷◌, ◌++◌, length, get_or, take, drop, sym, refl, ap, ◌∙◌, append_assoc, append-nil, add-one, arith, drop-cons}
+use lib.Seq.{drop-length}
 use Rattle.std.specs.List.{between}
 use Rattle.std.proofs.lemmas.List.{take_rest}
 use Rattle.std.proofs.lemmas.Slice.{first_rest}
@@ -13,15 +13,15 @@ module _ {X : Type 0} (text : X → List ℕ) where
       → bs ++ each text (drop k xs) ≡ all → (bs ++ text x) ++ each text (drop (k + 1) xs) ≡ all
   each_more xs k x d bs all h e whole =
       append_assoc bs (text x) _
-      ∙ ap (λ j. bs ++ (text x ++ each text (drop j xs))) (add_one k)
+      ∙ ap (λ j. bs ++ (text x ++ each text (drop j xs))) (add-one k)
       ∙ ap (λ y. bs ++ (text y ++ each text (drop (suc k) xs))) (sym e)
-      ∙ ap (λ r. bs ++ each text r) (sym (drop_cons xs k d h))
+      ∙ ap (λ r. bs ++ each text r) (sym (drop-cons xs k d h))
       ∙ whole
 
   pub each_done : (xs : List X) (k : ℕ) (bs all : List ℕ) → k ≡ length xs → bs ++ each text (drop k xs) ≡ all → bs ≡ all
   each_done xs k bs all e whole =
-      sym (append_nil bs)
-      ∙ ap (λ r. bs ++ each text r) (sym (ap (λ j. drop j xs) e ∙ drop_length xs))
+      sym (append-nil bs)
+      ∙ ap (λ r. bs ++ each text r) (sym (ap (λ j. drop j xs) e ∙ drop-length xs))
       ∙ whole
 
 module _ {V : Type 0} (three : V → Ternary) where
@@ -43,4 +43,4 @@ module _ {V : Type 0} (three : V → Ternary) where
       rest = take_rest xs width ∙ ap (λ k. drop k xs) (omega arith) ∙ drop_lent xs lines width is
 
   pub samples_done : (lines n : ℕ) (xs : List V) (bs all : List ℕ) → n ≡ 0 → bs ++ rows_text three n lines xs ≡ all → bs ≡ all
-  samples_done lines n xs bs all e whole = sym (append_nil bs) ∙ ap (λ k. bs ++ rows_text three k lines xs) (sym e) ∙ whole
+  samples_done lines n xs bs all e whole = sym (append-nil bs) ∙ ap (λ k. bs ++ rows_text three k lines xs) (sym e) ∙ whole

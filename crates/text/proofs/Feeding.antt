@@ -1,6 +1,6 @@
 -- What a write into a draft comes to.
 use Rattle.std.proofs.Common.{◌≡◌, ℕ, zero, suc, ◌+◌, ◌<◌, ◌≤◌, Bool, true, false, cond, eqb, List, [], ◌∷◌, ◌++◌, map, length, get_or, Some, None, Ok, Err, Option, Result, sym, refl, ap, ◌∙◌, subst, arith}
-use Rattle.std.proofs.lemmas.List.{append_nil}
+use Rattle.std.proofs.lemmas.List.{append-nil}
 use Rattle.std.proofs.lemmas.Bool.Decides.{nat_tests}
 use Rattle.sheet.proofs.Front.{length_lines}
 use Rattle.sheet.specs.declared.draft.Draft.{Draft}
@@ -24,7 +24,7 @@ grown_cond ls true p q hp hq = hp
 grown_cond ls false p q hp hq = hq
 
 grown_same : (ls : List Line) → Grown ls ls
-grown_same ls = ([], sym (append_nil ls))
+grown_same ls = ([], sym (append-nil ls))
 
 grown_named : (o : Option Line) (a b : ℕ) (l : Ledger) → Grown l.lines (put_named o a b l).1.lines
 grown_named None a b l = grown_same l.lines

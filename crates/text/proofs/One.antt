@@ -1,6 +1,6 @@
 -- The first fault of a text is one fault.
 use Rattle.std.proofs.Common.{◌≡◌, ℕ, ◌+◌, ◌-◌, ◌<◌, ◌≤◌, ◌⊎◌, List, [], ◌∷◌, ◌++◌, length, get_or, take, drop, sym, refl, ap, ◌∙◌, subst, inl, inr, arith}
-use Rattle.std.proofs.lemmas.List.{length_drop}
+use Rattle.std.proofs.lemmas.List.{length-drop}
 use Rattle.lexer.specs.Names.{Letter, Letters, AllNames, AllDifferent}
 use Rattle.sheet.specs.declared.refusal.Refusal.TheVariants.{Full}
 use Rattle.text.specs.declared.sign.Prefix.{Prefix}
@@ -19,8 +19,8 @@ same_reads : (names : List (List ℕ)) → AllNames names → AllDifferent names
 same_reads names all dif text n ls at l q a b R S =
     let i = one_rule names all dif n l q (drop a text) (drop b text) R.fits S.fits (ends_stop names all text n ls at l a R) (ends_stop names all text n ls at q b S) (sym R.spells ∙ S.spells) in
     let m = ap length i.1 in
-    let x = length_drop a text in
-    let y = length_drop b text in
+    let x = length-drop a text in
+    let y = length-drop b text in
     let u = R.within in
     let v = S.within in
     (i.0, omega (arith, m, x, y, u, v))

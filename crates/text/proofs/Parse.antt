@@ -1,6 +1,6 @@
 -- What each way through the reader shows.
 use Rattle.std.proofs.Common.{◌≡◌, ℕ, ◌+◌, ◌-◌, ◌<◌, ◌≤◌, eqb, ◌⊎◌, List, [], ◌∷◌, ◌++◌, length, get_or, take, drop, IsErrAnd, Some, Ok, Err, Result, sym, refl, ap, ◌∙◌, subst, inl, inr, ⊎_elim, arith, Bor}
-use Rattle.std.proofs.lemmas.List.{append_nil, append_assoc, length_push, length_append, drop_more, take_append_drop, drop_drop, get_or_past, length_take_le}
+use Rattle.std.proofs.lemmas.List.{append-nil, append_assoc, length_push, length-append, drop_more, take-append-drop, drop-drop, get_or_past, length-take-le}
 use Rattle.std.proofs.lemmas.Result.{err_from_is_err_and}
 use Rattle.lexer.specs.declared.token.Token.{Token}
 use Rattle.lexer.specs.declared.token.Token.TheVariants.{Sign, Digit, Name}
@@ -118,9 +118,9 @@ whole_signal names text n before after at d name place k t lt e w =
     let sum : at + (d.end - at) ≡ d.end = omega arith in
     record {
       reads = record {
-        spells = sym (take_append_drop (d.end - at) (drop at text))
+        spells = sym (take-append-drop (d.end - at) (drop at text))
             ∙ ap (λ (xs : List ℕ). xs ++ drop (d.end - at) (drop at text)) (sym (e ∙ t.part))
-            ∙ ap (λ (xs : List ℕ). get_or names k [] ++ xs) (drop_drop (d.end - at) at text ∙ ap (λ (j : ℕ). drop j text) sum);
+            ∙ ap (λ (xs : List ℕ). get_or names k [] ++ xs) (drop-drop (d.end - at) at text ∙ ap (λ (j : ℕ). drop j text) sum);
         within = t.letters.within;
         onward = t.some;
         fits = lt;

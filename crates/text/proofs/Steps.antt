@@ -2,7 +2,7 @@
 use Rattle.std.proofs.Common.{◌≡◌, ℕ, ◌+◌, ◌-◌, ◌<◌, ◌≤◌, Bool, true, eqb, ltb, List, [], ◌∷◌, ◌++◌, length, Ok, Err, Result, sym, refl, ap, ◌∙◌, subst, arith, lit<}
 use Rattle.std.proofs.lemmas.Bool.{and_from}
 use Rattle.std.proofs.lemmas.Bool.Decides.{nat_tests}
-use Rattle.std.proofs.lemmas.List.{append_nil, append_assoc, length_push, length_append}
+use Rattle.std.proofs.lemmas.List.{append-nil, append_assoc, length_push, length-append}
 use Rattle.sheet.specs.declared.line.Line.{Line}
 use Rattle.sheet.specs.declared.refusal.Refusal.{Refusal}
 use Rattle.sheet.specs.declared.refusal.Refusal.TheVariants.{Full}
@@ -18,13 +18,13 @@ use Rattle.text.proofs.Feeding.{Took}
 -- lines that were added
 
 pub grown_none : (ls : List Line) → Grown ls ls
-grown_none ls = ([], sym (append_nil ls))
+grown_none ls = ([], sym (append-nil ls))
 
 pub grown_more : (a b c : List Line) → Grown a b → Grown b c → Grown a c
 grown_more a b c (x, e) (y, f) = (x ++ y, f ∙ rw e (append_assoc a x y))
 
 pub grown_length : (a b : List Line) → Grown a b → length a ≤ length b
-grown_length a b (more, e) = omega (arith, ap length e, length_append a more)
+grown_length a b (more, e) = omega (arith, ap length e, length-append a more)
 
 pub onward_none : (p : Pending) → Onward p p
 onward_none p = record { kept = refl; same = refl; grown = grown_none _ }
@@ -57,7 +57,7 @@ wrote_two before mid after x y m at (Err f) a b =
 pub wrote_first : (before mid : List Line) (x y : Line) (at : ℕ) (f : Fault)
     → Wrote before mid (x ∷ []) at (Err f) → Wrote before mid (x ∷ y ∷ []) at (Err f)
 wrote_first before mid x y at f a =
-    (a.0, (let l = length_append before (x ∷ []) in let m = length_append before (x ∷ y ∷ []) in omega (arith, l, m, a.1)))
+    (a.0, (let l = length-append before (x ∷ []) in let m = length-append before (x ∷ y ∷ []) in omega (arith, l, m, a.1)))
 
 -- the first line's number is how many lines stood before it
 pub first_number : (before mid : List Line) (x : Line) (m at : ℕ) → Wrote before mid (x ∷ []) at (Ok m) → m ≡ length before

@@ -1,6 +1,6 @@
 -- What the whole reader shows.
 use Rattle.std.proofs.Common.{◌≡◌, ℕ, ◌+◌, ◌-◌, ◌<◌, ◌≤◌, List, [], ◌∷◌, ◌++◌, length, take, drop, IsErrAnd, Ok, Err, Result, sym, refl, ap, ◌∙◌, subst, arith}
-use Rattle.std.proofs.lemmas.List.{append_nil, take_at, drop_all}
+use Rattle.std.proofs.lemmas.List.{append-nil, take_at, drop_all}
 use Rattle.std.proofs.lemmas.Result.{err_from_is_err_and}
 use Rattle.sheet.specs.declared.draft.Draft.{Draft}
 use Rattle.sheet.specs.declared.line.Line.{Line}
@@ -34,7 +34,7 @@ accepted names text before after d r short le w g =
       fitting =
           record {
             short = short;
-            spells = w.reads.spells ∙ ap (λ (xs : List ℕ). spelled names r ++ xs) (drop_all d.end text le) ∙ append_nil (spelled names r);
+            spells = w.reads.spells ∙ ap (λ (xs : List ℕ). spelled names r ++ xs) (drop_all d.end text le) ∙ append-nil (spelled names r);
             fits = w.reads.fits;
             room = w.reads.room;
           };

@@ -1,6 +1,6 @@
 -- A text spells at most one rule, and a text that spells a rule that fits has no fault.
-use Rattle.std.proofs.Common.{◌≡◌, ℕ, zero, suc, ◌+◌, ◌-◌, ◌<◌, ◌≤◌, Bool, true, false, cond, ◌&&◌, eqb, ◌⊎◌, List, [], ◌∷◌, ◌++◌, length, get_or, take, drop, sym, refl, ap, ◌∙◌, subst, inl, inr, suc_le_suc, arith}
-use Rattle.std.proofs.lemmas.List.{append_nil, append_assoc, length_append, length_drop, length_take_le, drop_drop, drop_all, get_or_past, get_or_drop, get_or_take, get_or_at, take_append_drop}
+use Rattle.std.proofs.Common.{◌≡◌, ℕ, zero, suc, ◌+◌, ◌-◌, ◌<◌, ◌≤◌, Bool, true, false, cond, ◌&&◌, eqb, ◌⊎◌, List, [], ◌∷◌, ◌++◌, length, get_or, take, drop, sym, refl, ap, ◌∙◌, subst, inl, inr, suc-le-suc, arith}
+use Rattle.std.proofs.lemmas.List.{append-nil, append_assoc, length-append, length-drop, length-take-le, drop-drop, drop_all, get_or_past, get_or-drop, get_or-take, get_or_at, take-append-drop}
 use Rattle.std.proofs.lemmas.Bool.{and_parts, and_from}
 use Rattle.std.proofs.lemmas.Bool.Decides.{nat_tests}
 use Rattle.std.specs.Char.{is_ascii_lowercase}
@@ -113,7 +113,7 @@ first_letter (b ∷ bs) u e = e.letters 0 (omega arith)
 
 lower_from : (xs : List ℕ) → ((k : ℕ) → k < length xs → Letter (get_or xs k 0)) → lower xs ≡ true
 lower_from [] h = refl
-lower_from (b ∷ bs) h = and_from (is_ascii_lowercase b) (lower bs) (letter_lower b (h 0 (omega arith))) (lower_from bs (λ k lt. h (suc k) (suc_le_suc lt)))
+lower_from (b ∷ bs) h = and_from (is_ascii_lowercase b) (lower bs) (letter_lower b (h 0 (omega arith))) (lower_from bs (λ k lt. h (suc k) (suc-le-suc lt)))
 
 name_lower : (n : List ℕ) → IsName n → lower n ≡ true
 name_lower n e = lower_from n e.letters
@@ -212,7 +212,7 @@ stop_at [] h = tt
 stop_at (b ∷ bs) h = h
 
 first_is : (text : List ℕ) (at : ℕ) → get_or (drop at text) 0 0 ≡ get_or text at 0
-first_is text at = get_or_drop at text 0 0 ∙ (let z : at + 0 ≡ at = omega arith in ap (λ (k : ℕ). get_or text k 0) z)
+first_is text at = get_or-drop at text 0 0 ∙ (let z : at + 0 ≡ at = omega arith in ap (λ (k : ℕ). get_or text k 0) z)
 
 pub ends_stop : (names : List (List ℕ)) → AllNames names → (text : List ℕ) (n : ℕ) (ls : List Line) (at : ℕ) (r : Rule) (end : ℕ)
     → Reads names text n ls at r end → EndsName r → Stop (drop end text)
@@ -222,14 +222,14 @@ ends_stop names all text n ls at r end R h =
     let b = q.1.0 in
     let u = drop end text in
     let e : drop at text ≡ pre ++ (b ∷ u) = R.spells ∙ ap (λ (z : List ℕ). z ++ u) q.1.1.0 ∙ append_assoc pre (b ∷ []) u in
-    let l0 = length_drop at text in
-    let l1 = length_drop end text in
-    let l2 : length (drop at text) ≡ length pre + length (b ∷ u) = ap length e ∙ length_append pre (b ∷ u) in
+    let l0 = length-drop at text in
+    let l1 = length-drop end text in
+    let l2 : length (drop at text) ≡ length pre + length (b ∷ u) = ap length e ∙ length-append pre (b ∷ u) in
     let w = R.within in
     let o = R.onward in
     let k : at + length pre ≡ end - 1 = omega (arith, l0, l1, l2, w, o) in
     let byte : get_or text (end - 1) 0 ≡ b =
-    ap (λ (j : ℕ). get_or text j 0) (sym k) ∙ sym (get_or_drop at text (length pre) 0) ∙ ap (λ (z : List ℕ). get_or z (length pre) 0) e ∙ get_or_at pre b u 0 (length pre) refl in
+    ap (λ (j : ℕ). get_or text j 0) (sym k) ∙ sym (get_or-drop at text (length pre) 0) ∙ ap (λ (z : List ℕ). get_or z (length pre) 0) e ∙ get_or_at pre b u 0 (length pre) refl in
     stop_at (drop end text) (λ m. R.whole (subst Letter (sym byte) q.1.1.1) (subst Letter (first_is text end) m))
 
 -- a rule that the text spells from a place on, with `x` after it
@@ -245,12 +245,12 @@ match_reads names all dif text n ls at l q mid x R C =
     one_rule names all dif n l q (drop mid text) x R.fits C.fits (ends_stop names all text n ls at l mid R) C.stop (sym R.spells ∙ C.goes)
 
 grows : (r : Rule) (ls : List Line) → length ls < length (written ls r)
-grows (truth v) ls = let l = length_append ls (line.Const (eqb v 1) ∷ []) in omega (arith, l)
-grows (signal k) ls = let l = length_append ls (line.Signal k ∷ []) in omega (arith, l)
+grows (truth v) ls = let l = length-append ls (line.Const (eqb v 1) ∷ []) in omega (arith, l)
+grows (signal k) ls = let l = length-append ls (line.Signal k ∷ []) in omega (arith, l)
 grows (under p r) ls =
-    let l = length_append (written ls r) (prefix_lines p (last (written ls r)) (length (written ls r))) in let g = grows r ls in omega (arith, l, g)
+    let l = length-append (written ls r) (prefix_lines p (last (written ls r)) (length (written ls r))) in let g = grows r ls in omega (arith, l, g)
 grows (pair a s r) ls =
-    let l = length_append (written (written ls a) r) (infix_lines s (last (written ls a)) (last (written (written ls a) r)) (length (written (written ls a) r))) in
+    let l = length-append (written (written ls a) r) (infix_lines s (last (written ls a)) (last (written (written ls a) r)) (length (written (written ls a) r))) in
     let g = grows a ls in let h = grows r (written ls a) in omega (arith, l, g, h)
 
 cand_byte : (names : List (List ℕ)) (text : List ℕ) (n : ℕ) (ls : List Line) (at : ℕ) (r : Rule) (x : List ℕ)
@@ -258,7 +258,7 @@ cand_byte : (names : List (List ℕ)) (text : List ℕ) (n : ℕ) (ls : List Lin
 cand_byte names text n ls at r x C = sym (first_is text at) ∙ head C.goes
 
 next_rest : (text : List ℕ) (at b : ℕ) (xs : List ℕ) → drop at text ≡ b ∷ xs → drop (at + 1) text ≡ xs
-next_rest text at b xs e = sym (drop_drop 1 at text) ∙ tail e
+next_rest text at b xs e = sym (drop-drop 1 at text) ∙ tail e
 
 invert_under : (names : List (List ℕ)) → AllNames names → (text : List ℕ) (n : ℕ) (ls : List Line) (at : ℕ) (r : Rule) (x : List ℕ) (p : Prefix)
     → get_or text at 0 ≡ prefix_sign p → Cand names text n ls at r x → (q : Rule) × ((r ≡ under p q) × (n < 32) × Cand names text (n + 1) ls (at + 1) q x)
@@ -268,7 +268,7 @@ invert_under names all text n ls at (signal k) x p b C =
     absurd (prefix_no_letter p (subst Letter (sym (cand_byte names text n ls at (signal k) x C) ∙ b) (first_letter (get_or names k []) x (all k C.fits))))
 invert_under names all text n ls at (under o q) x p b C =
     let s = same_prefix o p (sym (cand_byte names text n ls at (under o q) x C) ∙ b) in
-    let l = length_append (written ls q) (prefix_lines o (last (written ls q)) (length (written ls q))) in
+    let l = length-append (written ls q) (prefix_lines o (last (written ls q)) (length (written ls q))) in
     let m = C.room in (
       q,
       (
@@ -301,7 +301,7 @@ invert_pair names all text n ls at (signal k) x b C =
     absurd (let h = subst Letter (sym (cand_byte names text n ls at (signal k) x C) ∙ b) (first_letter (get_or names k []) x (all k C.fits)) in omega (arith, h.0))
 invert_pair names all text n ls at (under p q) x b C = absurd (prefix_no_bracket p (sym (cand_byte names text n ls at (under p q) x C) ∙ b))
 invert_pair names all text n ls at (pair a t z) x b C =
-    let l0 = length_append (written (written ls a) z) (infix_lines t (last (written ls a)) (last (written (written ls a) z)) (length (written (written ls a) z))) in
+    let l0 = length-append (written (written ls a) z) (infix_lines t (last (written ls a)) (last (written (written ls a) z)) (length (written (written ls a) z))) in
     let g = grows z (written ls a) in
     let m = C.room in
     record {
@@ -367,16 +367,16 @@ no_unknown names all text n ls at end (signal k) x lt s none C =
     let m = end - at in
     let part = take m (drop at text) in
     let w = s.within in
-    let len = length_drop at text in
-    let pl : length part ≡ m = length_take_le m (drop at text) (omega (arith, len, w)) in
+    let len = length-drop at text in
+    let pl : length part ≡ m = length-take-le m (drop at text) (omega (arith, len, w)) in
     let sum : at + m ≡ end = omega arith in
     let cutting : drop at text ≡ part ++ drop end text =
-    sym (take_append_drop m (drop at text)) ∙ ap (λ (z : List ℕ). part ++ z) (drop_drop m at text ∙ ap (λ (j : ℕ). drop j text) sum) in
+    sym (take-append-drop m (drop at text)) ∙ ap (λ (z : List ℕ). part ++ z) (drop-drop m at text ∙ ap (λ (j : ℕ). drop j text) sum) in
     let low : lower part ≡ true = lower_from part (λ j lj.
     let below : j < m = omega (arith, pl, lj) in
     let a : at ≤ at + j = omega arith in
     let b : at + j < end = omega arith in
-    subst Letter (sym (get_or_take m (drop at text) j 0 below ∙ get_or_drop at text j 0)) (s.all (at + j) a b)) in
+    subst Letter (sym (get_or-take m (drop at text) j 0 below ∙ get_or-drop at text j 0)) (s.all (at + j) a b)) in
     let st : Stop (drop end text) = stop_at (drop end text) (λ h. past text at end s (subst Letter (first_is text end) h)) in
     none k C.fits (same_run (get_or names k []) part x (drop end text) (name_lower (get_or names k []) (all k C.fits)) low (C.stop tt) st (sym C.goes ∙ cutting)).0
 
@@ -444,7 +444,7 @@ pub apart : (names : List (List ℕ)) (text : List ℕ) (ls : List Line) → All
 apart names text ls all dif r f A w = go w
   where
     C : Cand names text 0 ls 0 r []
-    C = record { goes = A.spells ∙ sym (append_nil (spelled names r)); fits = A.fits; room = A.room; stop = λ _. tt }
+    C = record { goes = A.spells ∙ sym (append-nil (spelled names r)); fits = A.fits; room = A.room; stop = λ _. tt }
 
     go : {g : Fault} → FirstFault names text ls g → ⊥
     go (too_long h) = let short = A.short in omega (arith, h, short)
@@ -452,7 +452,7 @@ apart names text ls all dif r f A w = go w
     go (goes_on {p = p} o h R lt) =
         let m = match_reads names all dif text 0 ls 0 o r p [] R C in
         let l : length (drop p text) ≡ 0 = ap length m.1 in
-        let d = length_drop p text in
+        let d = length-drop p text in
         omega (arith, l, d, lt)
 
 pub one_fitting : (names : List (List ℕ)) (text : List ℕ) (ls : List Line) → AllNames names → AllDifferent names

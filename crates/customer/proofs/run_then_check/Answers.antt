@@ -5,15 +5,15 @@ use Rattle.machine.specs.Machines.{tables}
 use Rattle.customer.proofs.Checks.{never_refused, said}
 use Rattle.customer.proofs.run_then_check.Goals as goal
 
-pub unreachable_requires : goal.unreachable_requires
-unreachable_requires g c =
+pub unreachable-requires : goal.unreachable-requires
+unreachable-requires g c =
     let s = c.args.sheet.now in
     let lines = sealed_lines s in
     let some : 0 < length lines = omega (arith, length_lines s.draft, s.some) in
     let most : length lines ≤ 64 = omega (arith, length_lines s.draft, s.draft.room) in
     never_refused g.Truth.Truth.kind g.Truth.Truth.means lines (g.B.Recording.word c.args.recording.now) (draft_sheet s.draft) some most
-    c.args.cells.now c.write_out.new.cells c.args.rows.now c.write_out.new.rows c.in_ok_written.written c.in_ok_written.ensures
-    (tables c.translate.new.machine) c.translate.ensures.filled c.in_Err.field_0 c.in_Err.ensures
+    c.args.cells.now c.write-out.new.cells c.args.rows.now c.write-out.new.rows c.in-ok-written.written c.in-ok-written.ensures
+    (tables c.translate.new.machine) c.translate.ensures.filled c.in-Err.field-0 c.in-Err.ensures
 
 pub returns : goal.returns
 returns g c =
@@ -22,5 +22,5 @@ returns g c =
     let some : 0 < length lines = omega (arith, length_lines s.draft, s.some) in
     let most : length lines ≤ 64 = omega (arith, length_lines s.draft, s.draft.room) in
     said g.Truth.Truth.kind g.Truth.Truth.means lines (g.B.Recording.word c.args.recording.now) (draft_sheet s.draft) some most
-    c.args.cells.now c.write_out.new.cells c.args.rows.now c.write_out.new.rows c.in_ok_written.written c.in_ok_written.ensures
-    (tables c.translate.new.machine) c.translate.ensures.filled c.in_Ok.accepting c.in_Ok.ensures
+    c.args.cells.now c.write-out.new.cells c.args.rows.now c.write-out.new.rows c.in-ok-written.written c.in-ok-written.ensures
+    (tables c.translate.new.machine) c.translate.ensures.filled c.in-Ok.accepting c.in-Ok.ensures

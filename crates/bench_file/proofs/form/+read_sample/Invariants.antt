@@ -1,4 +1,4 @@
 use Rattle.bench_file.proofs.form.+read_sample.Given as goal
 
-abbrev pub decreases_read_sample : goal.decreases_read_sample
-decreases_read_sample l = l.signals
+abbrev pub decreases-read-sample : goal.decreases-read-sample
+decreases-read-sample l = l.signals

@@ -1,11 +1,11 @@
 use Rattle.bench_file.proofs.Marks.{zero_mark, one_mark, lost_mark}
 use Rattle.bench_file.proofs.form.mark.Goals as goal
 
-pub returns_in_0 : goal.returns_in_0
-returns_in_0 c = zero_mark _ c.if_bytes_ne1.false c.in_0.is
+pub returns-in-0 : goal.returns-in-0
+returns-in-0 c = zero_mark _ c.if-bytes-ne1.false c.in-0.is
 
-pub returns_in_1 : goal.returns_in_1
-returns_in_1 c = one_mark _ c.if_bytes_ne1.false c.in_1.is
+pub returns-in-1 : goal.returns-in-1
+returns-in-1 c = one_mark _ c.if-bytes-ne1.false c.in-1.is
 
-pub returns_in_63 : goal.returns_in_63
-returns_in_63 c = lost_mark _ c.if_bytes_ne1.false c.in_63.is
+pub returns-in-63 : goal.returns-in-63
+returns-in-63 c = lost_mark _ c.if-bytes-ne1.false c.in-63.is

@@ -4,36 +4,36 @@ use Rattle.bench_file.specs.Lines.{value}
 use Rattle.bench_file.proofs.Numerals.{positive, a_digit, no_digit, value_more}
 use Rattle.bench_file.proofs.form.numeral.Goals as goal
 
-pub overflow_mul_value : goal.overflow_mul_value
-overflow_mul_value c = omega (arith, c.loop_digit.invariant.5 (omega arith))
+pub overflow-mul-value : goal.overflow-mul-value
+overflow-mul-value c = omega (arith, c.loop-digit.invariant.5 (omega arith))
 
-pub overflow_add_value : goal.overflow_add_value
-overflow_add_value c =
-    let d = a_digit (get_or c.args.digits.now c.loop_digit.digit_index 0) (sym c.is_ascii_digit.ensures.value ∙ c.if_not_is_ascii_digit.false) in
-    omega (arith, c.loop_digit.invariant.5 (omega arith), d)
+pub overflow-add-value : goal.overflow-add-value
+overflow-add-value c =
+    let d = a_digit (get_or c.args.digits.now c.loop-digit.digit-index 0) (sym c.is-ascii-digit.ensures.value ∙ c.if-not-is-ascii-digit.false) in
+    omega (arith, c.loop-digit.invariant.5 (omega arith), d)
 
-pub loop_digit_init : goal.loop_digit_init
-loop_digit_init c = (refl, (λ k h. absurd (omega (arith, h))), (λ h. h), (λ h. omega arith), (λ h. omega arith), (λ h. omega arith))
+pub loop-digit-init : goal.loop-digit-init
+loop-digit-init c = (refl, (λ k h. absurd (omega (arith, h))), (λ h. h), (λ h. omega arith), (λ h. omega arith), (λ h. omega arith))
 
-pub loop_digit_preserved : goal.loop_digit_preserved
-loop_digit_preserved c =
-    let d = a_digit _ (sym c.is_ascii_digit.ensures.value ∙ c.if_not_is_ascii_digit.false) in (
-      value_more _ _ _ c.loop_digit_test.true c.loop_digit.invariant.0,
-      below_more _ _ c.loop_digit.invariant.1 d,
+pub loop-digit-preserved : goal.loop-digit-preserved
+loop-digit-preserved c =
+    let d = a_digit _ (sym c.is-ascii-digit.ensures.value ∙ c.if-not-is-ascii-digit.false) in (
+      value_more _ _ _ c.loop-digit-test.true c.loop-digit.invariant.0,
+      below_more _ _ c.loop-digit.invariant.1 d,
       (λ h. absurd (omega (arith, h))),
-      (λ h. omega (arith, c.loop_digit.invariant.2 (omega (arith, h)), d)),
-      (λ h. omega (arith, c.loop_digit.invariant.3 (omega (arith, h)), d)),
-      (λ h. omega (arith, c.loop_digit.invariant.4 (omega (arith, h)), d)),
+      (λ h. omega (arith, c.loop-digit.invariant.2 (omega (arith, h)), d)),
+      (λ h. omega (arith, c.loop-digit.invariant.3 (omega (arith, h)), d)),
+      (λ h. omega (arith, c.loop-digit.invariant.4 (omega (arith, h)), d)),
     )
 
-pub returns_then_not_is_ascii_digit : goal.returns_then_not_is_ascii_digit
-returns_then_not_is_ascii_digit c n =
-    no_digit _ (sym c.is_ascii_digit.ensures.value ∙ c.if_not_is_ascii_digit.true) (n.digits _ c.loop_digit_test.true)
+pub returns-then-not-is-ascii-digit : goal.returns-then-not-is-ascii-digit
+returns-then-not-is-ascii-digit c n =
+    no_digit _ (sym c.is-ascii-digit.ensures.value ∙ c.if-not-is-ascii-digit.true) (n.digits _ c.loop-digit-test.true)
 
 pub returns : goal.returns
 returns c =
     let n = c.args.digits.now in (
-      record { some = positive _ c.if_digits_eq0.false; few = c.if_digits_gt3.false; digits = λ k lt. c.loop_digit.invariant.1 k (omega arith) },
-      c.loop_digit.invariant.0 ∙ ap value (take_all _ n (omega arith)),
-      c.loop_digit.invariant.5 (omega arith),
+      record { some = positive _ c.if-digits-eq0.false; few = c.if-digits-gt3.false; digits = λ k lt. c.loop-digit.invariant.1 k (omega arith) },
+      c.loop-digit.invariant.0 ∙ ap value (take_all _ n (omega arith)),
+      c.loop-digit.invariant.5 (omega arith),
     )

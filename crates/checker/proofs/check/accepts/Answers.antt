@@ -8,64 +8,64 @@ use Rattle.laws.proofs.Endless.{after_in}
 use Rattle.checker.proofs.Walking.{Walked, walked_none, walked_more, passes_kept, accepted_passes, accepted_root, accepted_starts, accepted_met, all_accepted, getD_none}
 use Rattle.checker.proofs.check.accepts.Goals as goal
 
-pub returns_then_not_first_root : goal.returns_then_not_first_root
-returns_then_not_first_root g c =
+pub returns-then-not-first-root : goal.returns-then-not-first-root
+returns-then-not-first-root g c =
     let m = c.args.machine.now in (
       λ e. absurd (false≢true e),
       λ a.
-          sym c.if_not_first_root.true
-          ∙ ap (λ r. get_or c.moment_of_first.result.values r false) c.root_root.ensures.is
-          ∙ accepted_root g.Truth.Truth.kind (tables m) c.root_root.ensures.sound.0 g.Truth.Truth.means (g.R.Recording.word c.args.recording.now) c.requires.named c.args.rows.now c.args.back c.requires.shape
-          c.moment_of_first.result c.moment_of_first.ensures a,
+          sym c.if-not-first-root.true
+          ∙ ap (λ r. get_or c.moment-of-first.result.values r false) c.root-root.ensures.is
+          ∙ accepted_root g.Truth.Truth.kind (tables m) c.root-root.ensures.sound.0 g.Truth.Truth.means (g.R.Recording.word c.args.recording.now) c.requires.named c.args.rows.now c.args.back c.requires.shape
+          c.moment-of-first.result c.moment-of-first.ensures a,
     )
 
-pub returns_then_not_all_start : goal.returns_then_not_all_start
-returns_then_not_all_start g c =
+pub returns-then-not-all-start : goal.returns-then-not-all-start
+returns-then-not-all-start g c =
     let m = c.args.machine.now in (
       λ e. absurd (false≢true e),
       λ a.
-          c.if_not_all_start.ensures.1
-          (accepted_starts g.Truth.Truth.kind (tables m) c.root_root.ensures.sound.0 g.Truth.Truth.means (g.R.Recording.word c.args.recording.now) c.requires.named c.args.rows.now c.args.back c.requires.shape
-          c.moment_of_first.result c.moment_of_first.ensures a),
+          c.if-not-all-start.ensures.1
+          (accepted_starts g.Truth.Truth.kind (tables m) c.root-root.ensures.sound.0 g.Truth.Truth.means (g.R.Recording.word c.args.recording.now) c.requires.named c.args.rows.now c.args.back c.requires.shape
+          c.moment-of-first.result c.moment-of-first.ensures a),
     )
 
-pub loop_i_init : goal.loop_i_init
-loop_i_init g c =
+pub loop-i-init : goal.loop-i-init
+loop-i-init g c =
     let m = c.args.machine.now in
-    walked_none g.Truth.Truth.kind (tables m) c.root_root.ensures.sound.0 (meant g.Truth.Truth.means (g.R.Recording.word c.args.recording.now)) c.args.rows.now c.args.back c.requires.shape.turns.inside
-    c.moment_of_first.result (replicate 64 false) c.moment_of_first.ensures refl (getD_none 64)
+    walked_none g.Truth.Truth.kind (tables m) c.root-root.ensures.sound.0 (meant g.Truth.Truth.means (g.R.Recording.word c.args.recording.now)) c.args.rows.now c.args.back c.requires.shape.turns.inside
+    c.moment-of-first.result (replicate 64 false) c.moment-of-first.ensures refl (getD_none 64)
 
-pub loop_i_preserved : goal.loop_i_preserved
-loop_i_preserved g c =
+pub loop-i-preserved : goal.loop-i-preserved
+loop-i-preserved g c =
     let m = c.args.machine.now in
     let K = g.Truth.Truth.kind in
     let word = meant g.Truth.Truth.means (g.R.Recording.word c.args.recording.now) in
     let rows = c.args.rows.now in
     let back = c.args.back in
-    let there = c.moment_of_there.result in
-    walked_more K (tables m) c.root_root.ensures.sound.0 word rows back c.requires.shape.turns.inside c.loop_i.i c.loop_i_test.true c.loop_i.here there c.loop_i.met c.note_met.new.met c.loop_i.invariant
-    (subst (λ t. MomentAt K (tables m).gates word rows t there) c.after_row_next.ensures c.moment_of_there.ensures)
-    (after_in (length rows) back c.requires.shape.turns.inside c.loop_i.i)
-    (c.if_not_all_keep.ensures.0 refl)
-    c.note_met.array_long
-    c.note_met.ensures
+    let there = c.moment-of-there.result in
+    walked_more K (tables m) c.root-root.ensures.sound.0 word rows back c.requires.shape.turns.inside c.loop-i.i c.loop-i-test.true c.loop-i.here there c.loop-i.met c.note-met.new.met c.loop-i.invariant
+    (subst (λ t. MomentAt K (tables m).gates word rows t there) c.after-row-next.ensures c.moment-of-there.ensures)
+    (after_in (length rows) back c.requires.shape.turns.inside c.loop-i.i)
+    (c.if-not-all-keep.ensures.0 refl)
+    c.note-met.array_long
+    c.note-met.ensures
 
-pub returns_then_not_all_keep : goal.returns_then_not_all_keep
-returns_then_not_all_keep g c =
+pub returns-then-not-all-keep : goal.returns-then-not-all-keep
+returns-then-not-all-keep g c =
     let m = c.args.machine.now in
     let K = g.Truth.Truth.kind in
     let means = g.Truth.Truth.means in
     let w = g.R.Recording.word c.args.recording.now in
     let rows = c.args.rows.now in
     let back = c.args.back in
-    let there = c.moment_of_there.result in (
+    let there = c.moment-of-there.result in (
       λ e. absurd (false≢true e),
       λ a.
-          let p = accepted_passes K (tables m) c.root_root.ensures.sound.0 means w c.requires.named rows back c.requires.shape a in
-          c.if_not_all_keep.ensures.1
-          (passes_kept K (tables m) c.root_root.ensures.sound.0 (meant means w) rows back c.requires.shape.turns.inside c.loop_i.i c.loop_i_test.true c.loop_i.here there c.loop_i.met c.note_met.new.met c.loop_i.invariant
-          (subst (λ t. MomentAt K (tables m).gates (meant means w) rows t there) c.after_row_next.ensures c.moment_of_there.ensures)
-          (after_in (length rows) back c.requires.shape.turns.inside c.loop_i.i)
+          let p = accepted_passes K (tables m) c.root-root.ensures.sound.0 means w c.requires.named rows back c.requires.shape a in
+          c.if-not-all-keep.ensures.1
+          (passes_kept K (tables m) c.root-root.ensures.sound.0 (meant means w) rows back c.requires.shape.turns.inside c.loop-i.i c.loop-i-test.true c.loop-i.here there c.loop-i.met c.note-met.new.met c.loop-i.invariant
+          (subst (λ t. MomentAt K (tables m).gates (meant means w) rows t there) c.after-row-next.ensures c.moment-of-there.ensures)
+          (after_in (length rows) back c.requires.shape.turns.inside c.loop-i.i)
           p.0 p.1),
     )
 
@@ -77,12 +77,12 @@ returns g c =
     let w = g.R.Recording.word c.args.recording.now in
     let rows = c.args.rows.now in
     let back = c.args.back in
-    let end : c.loop_i.i ≡ length rows = omega arith in
-    let walked = subst (λ i. Walked K (tables m) (meant means w) rows back i c.loop_i.here c.loop_i.met) end c.loop_i.invariant in (
+    let end : c.loop-i.i ≡ length rows = omega arith in
+    let walked = subst (λ i. Walked K (tables m) (meant means w) rows back i c.loop-i.here c.loop-i.met) end c.loop-i.invariant in (
       λ e.
-          all_accepted K (tables m) c.root_root.ensures.sound.0 means w c.requires.named rows back c.requires.shape c.moment_of_first.result c.moment_of_first.ensures c.loop_i.here c.loop_i.met walked
-          c.is_yes.ensures.two (ap (λ r. get_or c.moment_of_first.result.values r false) (sym c.root_root.ensures.is) ∙ c.if_not_first_root.false) (c.if_not_all_start.ensures.0 refl) (c.all_met.ensures.0 e),
+          all_accepted K (tables m) c.root-root.ensures.sound.0 means w c.requires.named rows back c.requires.shape c.moment-of-first.result c.moment-of-first.ensures c.loop-i.here c.loop-i.met walked
+          c.is_yes.ensures.two (ap (λ r. get_or c.moment-of-first.result.values r false) (sym c.root-root.ensures.is) ∙ c.if-not-first-root.false) (c.if-not-all-start.ensures.0 refl) (c.all-met.ensures.0 e),
       λ a.
-          c.all_met.ensures.1
-          (accepted_met K (tables m) c.root_root.ensures.sound.0 means w c.requires.named rows back c.requires.shape c.moment_of_first.result c.moment_of_first.ensures c.loop_i.here c.loop_i.met walked a),
+          c.all-met.ensures.1
+          (accepted_met K (tables m) c.root-root.ensures.sound.0 means w c.requires.named rows back c.requires.shape c.moment-of-first.result c.moment-of-first.ensures c.loop-i.here c.loop-i.met walked a),
     )

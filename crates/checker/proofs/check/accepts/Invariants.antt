@@ -3,6 +3,6 @@ use Rattle.machine.specs.Machines.{tables}
 use Rattle.checker.proofs.Walking.{Walked}
 use Rattle.checker.proofs.check.accepts.Given as goal
 
-abbrev pub invariant_loop_i : goal.invariant_loop_i
-invariant_loop_i g l =
+abbrev pub invariant-loop-i : goal.invariant-loop-i
+invariant-loop-i g l =
     Walked g.Truth.Truth.kind (tables l.machine) (meant g.Truth.Truth.means (g.R.Recording.word l.recording)) l.rows l.back l.i l.here l.met

@@ -5,8 +5,8 @@ use Rattle.laws.specs.Runs.{Reads, row_bits}
 use Rattle.machine.specs.Tables.{gate_at}
 use Rattle.checker.proofs.evaluation.moment_of.Given as goal
 
-abbrev pub invariant_loop_k : goal.invariant_loop_k
-invariant_loop_k g l =
+abbrev pub invariant-loop-k : goal.invariant-loop-k
+invariant-loop-k g l =
     (length l.values ≡ 192)
     × ((j : ℕ) → j < l.k
     → Reads g.Truth.Truth.kind (meant g.Truth.Truth.means (g.R.Recording.word l.recording)) (row_bits l.rows) (listed l.values)

@@ -1,23 +1,23 @@
 use Rattle.std.proofs.Common.{ap, ◌∙◌, subst}
 use Rattle.machine.specs.Translation.{translate, Sound}
-use Rattle.machine.proofs.Finishing.{held_is, all_gates_fit, all_variables_fit, all_pairs_fit, root_is_there}
+use Rattle.machine.proofs.Finishing.{held_is, gates_fit, variables_fit, pairs_fit, root_fits}
 use Rattle.machine.proofs.Wiring.{sound as sound_of}
 use Rattle.machine.proofs.translator.translate.Goals as goal
 
-pub invariant_of_machine : goal.invariant_of_machine
-invariant_of_machine c =
-    let w = c.filled_work.result in
-    let ls = c.lines_lines.result.now in
-    let l = c.lines_lines.ensures in
-    let built = c.filled_work.ensures in (
+pub invariant-of-machine : goal.invariant-of-machine
+invariant-of-machine c =
+    let w = c.filled-work.result in
+    let ls = c.lines-lines.result.now in
+    let l = c.lines-lines.ensures in
+    let built = c.filled-work.ensures in (
       w.sized,
       (
         w.within,
         (
-          all_gates_fit ls w l.sheet l.some l.few built,
+          gates_fit ls w l.sheet l.some l.few built,
           (
-            all_variables_fit ls w l.sheet l.some l.few built,
-            (all_pairs_fit ls w l.sheet l.some l.few built, (root_is_there ls w l.sheet l.some l.few built, tt)),
+            variables_fit ls w l.sheet l.some l.few built,
+            (pairs_fit ls w l.sheet l.some l.few built, (root_fits ls w l.sheet l.some l.few built, tt)),
           ),
         ),
       ),
@@ -25,9 +25,9 @@ invariant_of_machine c =
 
 pub returns : goal.returns
 returns c =
-    let ls = c.lines_lines.result.now in
-    let l = c.lines_lines.ensures in
+    let ls = c.lines-lines.result.now in
+    let l = c.lines-lines.ensures in
     record {
-      filled = held_is ls c.filled_work.result l.sheet l.some l.few c.filled_work.ensures ∙ ap translate l.are;
+      filled = held_is ls c.filled-work.result l.sheet l.some l.few c.filled-work.ensures ∙ ap translate l.are;
       sound = subst Sound l.are (sound_of ls l.sheet l.some l.few);
     }

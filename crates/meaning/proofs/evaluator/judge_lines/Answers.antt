@@ -1,6 +1,6 @@
 use Rattle.std.proofs.Common.{◌≡◌, ℕ, ◌+◌, ◌-◌, ◌*◌, ◌<◌, ◌≤◌, length, set, sym, refl, ap, ◌∙◌, subst, arith}
 use mathlib.Core.Path.{transport}
-use Rattle.std.proofs.lemmas.Nat.{mul_le}
+use Rattle.std.proofs.lemmas.Nat.{mul-le}
 use Rattle.recording.specs.Word.{meant}
 use Rattle.sheet.specs.Table.{line, pasts}
 use Rattle.meaning.specs.Cells.{column, Fills, Repeated}
@@ -13,167 +13,167 @@ use Rattle.meaning.proofs.Rows.{Columns, further_more}
 use Rattle.meaning.proofs.Deep.{Reach, Deep, Steady, Turn, turn_is, roomy, reach_more, reach_longer, reach_all, level_more, deep_more, steady_by, columns_at, columns_longer, further_longer}
 use Rattle.meaning.proofs.evaluator.judge_lines.Goals as goal
 
-pub overflow_add_depth : goal.overflow_add_depth
-overflow_add_depth g c =
+pub overflow-add-depth : goal.overflow-add-depth
+overflow-add-depth g c =
     let w = g.R.Recording.word c.args.recording.now in
-    let e = c.in_ok_extent.ensures in
-    let turn = turn_is g.Truth.Truth.kind g.Truth.Truth.means c.args.lines.now w c.requires.sheet e.has_signals c.requires.few c.loop_k.grid c.loop_k.depths c.loop_k.deepest c.loop_k.k c.loop_k_test.true c.loop_k.invariant.2 c.loop_k.invariant.3
-    (c.depth_under.result + c.looks_back.result) _ (λ i. c.depth_under.ensures i + c.looks_back.ensures i) refl in
+    let e = c.in-ok-extent.ensures in
+    let turn = turn_is g.Truth.Truth.kind g.Truth.Truth.means c.args.lines.now w c.requires.sheet e.has_signals c.requires.few c.loop-k.grid c.loop-k.depths c.loop-k.deepest c.loop-k.k c.loop-k-test.true c.loop-k.invariant.2 c.loop-k.invariant.3
+    (c.depth-under.result + c.looks-back.result) _ (λ i. c.depth-under.ensures i + c.looks-back.ensures i) refl in
     omega (arith, turn.small)
 
-pub overflow_mul_count : goal.overflow_mul_count
-overflow_mul_count g c =
+pub overflow-mul-count : goal.overflow-mul-count
+overflow-mul-count g c =
     let w = g.R.Recording.word c.args.recording.now in
-    let e = c.in_ok_extent.ensures in
-    let turn = turn_is g.Truth.Truth.kind g.Truth.Truth.means c.args.lines.now w c.requires.sheet e.has_signals c.requires.few c.loop_k.grid c.loop_k.depths c.loop_k.deepest c.loop_k.k c.loop_k_test.true c.loop_k.invariant.2 c.loop_k.invariant.3
-    (c.depth_under.result + c.looks_back.result) c.saturating_sub_deeper.result (λ i. c.depth_under.ensures i + c.looks_back.ensures i) c.saturating_sub_deeper.ensures in
-    omega (arith, turn.turn, ap (λ m. c.saturating_sub_deeper.result * m) c.cycle_cycle.ensures, w.sizes.4)
+    let e = c.in-ok-extent.ensures in
+    let turn = turn_is g.Truth.Truth.kind g.Truth.Truth.means c.args.lines.now w c.requires.sheet e.has_signals c.requires.few c.loop-k.grid c.loop-k.depths c.loop-k.deepest c.loop-k.k c.loop-k-test.true c.loop-k.invariant.2 c.loop-k.invariant.3
+    (c.depth-under.result + c.looks-back.result) c.saturating-sub-deeper.result (λ i. c.depth-under.ensures i + c.looks-back.ensures i) c.saturating-sub-deeper.ensures in
+    omega (arith, turn.turn, ap (λ m. c.saturating-sub-deeper.result * m) c.cycle-cycle.ensures, w.sizes.4)
 
-pub repeat_requires : goal.repeat_requires
-repeat_requires g c =
+pub repeat-requires : goal.repeat-requires
+repeat-requires g c =
     let w = g.R.Recording.word c.args.recording.now in
-    let e = c.in_ok_extent.ensures in
-    let reach = c.loop_k.invariant.2 in
-    let turn = turn_is g.Truth.Truth.kind g.Truth.Truth.means c.args.lines.now w c.requires.sheet e.has_signals c.requires.few c.loop_k.grid c.loop_k.depths c.loop_k.deepest c.loop_k.k c.loop_k_test.true reach c.loop_k.invariant.3
-    (c.depth_under.result + c.looks_back.result) c.saturating_sub_deeper.result (λ i. c.depth_under.ensures i + c.looks_back.ensures i) c.saturating_sub_deeper.ensures in
-    let ec = ap (λ m. c.saturating_sub_deeper.result * m) c.cycle_cycle.ensures in
+    let e = c.in-ok-extent.ensures in
+    let reach = c.loop-k.invariant.2 in
+    let turn = turn_is g.Truth.Truth.kind g.Truth.Truth.means c.args.lines.now w c.requires.sheet e.has_signals c.requires.few c.loop-k.grid c.loop-k.depths c.loop-k.deepest c.loop-k.k c.loop-k-test.true reach c.loop-k.invariant.3
+    (c.depth-under.result + c.looks-back.result) c.saturating-sub-deeper.result (λ i. c.depth-under.ensures i + c.looks-back.ensures i) c.saturating-sub-deeper.ensures in
+    let ec = ap (λ m. c.saturating-sub-deeper.result * m) c.cycle-cycle.ensures in
     record {
-      room = roomy c.loop_k.cells _ reach (omega (arith, e.room, c.loop_k.auto.cells)) (omega (arith, turn.within, ec));
-      few = omega (arith, reach.width, c.loop_k_test.true);
-      turn = (omega (arith, w.sizes.3, c.cycle_cycle.ensures), omega (arith, reach.samples, c.cycle_cycle.ensures), omega (arith, turn.turn, ec, c.cycle_cycle.ensures));
+      room = roomy c.loop-k.cells _ reach (omega (arith, e.room, c.loop-k.auto.cells)) (omega (arith, turn.within, ec));
+      few = omega (arith, reach.width, c.loop-k-test.true);
+      turn = (omega (arith, w.sizes.3, c.cycle-cycle.ensures), omega (arith, reach.samples, c.cycle-cycle.ensures), omega (arith, turn.turn, ec, c.cycle-cycle.ensures));
       fits = omega (arith, turn.within, ec, e.few, e.samples);
     }
 
-pub longer_grid_requires : goal.longer_grid_requires
-longer_grid_requires g c =
+pub longer-grid-requires : goal.longer-grid-requires
+longer-grid-requires g c =
     let w = g.R.Recording.word c.args.recording.now in
-    let e = c.in_ok_extent.ensures in
-    let reach = c.loop_k.invariant.2 in
-    let turn = turn_is g.Truth.Truth.kind g.Truth.Truth.means c.args.lines.now w c.requires.sheet e.has_signals c.requires.few c.loop_k.grid c.loop_k.depths c.loop_k.deepest c.loop_k.k c.loop_k_test.true reach c.loop_k.invariant.3
-    (c.depth_under.result + c.looks_back.result) c.saturating_sub_deeper.result (λ i. c.depth_under.ensures i + c.looks_back.ensures i) c.saturating_sub_deeper.ensures in
-    let ec = ap (λ m. c.saturating_sub_deeper.result * m) c.cycle_cycle.ensures in
+    let e = c.in-ok-extent.ensures in
+    let reach = c.loop-k.invariant.2 in
+    let turn = turn_is g.Truth.Truth.kind g.Truth.Truth.means c.args.lines.now w c.requires.sheet e.has_signals c.requires.few c.loop-k.grid c.loop-k.depths c.loop-k.deepest c.loop-k.k c.loop-k-test.true reach c.loop-k.invariant.3
+    (c.depth-under.result + c.looks-back.result) c.saturating-sub-deeper.result (λ i. c.depth-under.ensures i + c.looks-back.ensures i) c.saturating-sub-deeper.ensures in
+    let ec = ap (λ m. c.saturating-sub-deeper.result * m) c.cycle-cycle.ensures in
     (omega (arith, turn.within, ec, e.few, e.samples), omega (arith, turn.within, ec, e.few, e.samples, reach.samples))
 
-pub overflow_add_deepest : goal.overflow_add_deepest
-overflow_add_deepest g c =
+pub overflow-add-deepest : goal.overflow-add-deepest
+overflow-add-deepest g c =
     let w = g.R.Recording.word c.args.recording.now in
-    let e = c.in_ok_extent.ensures in
-    let turn = turn_is g.Truth.Truth.kind g.Truth.Truth.means c.args.lines.now w c.requires.sheet e.has_signals c.requires.few c.loop_k.grid c.loop_k.depths c.loop_k.deepest c.loop_k.k c.loop_k_test.true c.loop_k.invariant.2 c.loop_k.invariant.3
-    (c.depth_under.result + c.looks_back.result) c.saturating_sub_deeper.result (λ i. c.depth_under.ensures i + c.looks_back.ensures i) c.saturating_sub_deeper.ensures in
+    let e = c.in-ok-extent.ensures in
+    let turn = turn_is g.Truth.Truth.kind g.Truth.Truth.means c.args.lines.now w c.requires.sheet e.has_signals c.requires.few c.loop-k.grid c.loop-k.depths c.loop-k.deepest c.loop-k.k c.loop-k-test.true c.loop-k.invariant.2 c.loop-k.invariant.3
+    (c.depth-under.result + c.looks-back.result) c.saturating-sub-deeper.result (λ i. c.depth-under.ensures i + c.looks-back.ensures i) c.saturating-sub-deeper.ensures in
     omega (arith, turn.few)
 
-pub fill_line_requires : goal.fill_line_requires
-fill_line_requires g c =
+pub fill-line-requires : goal.fill-line-requires
+fill-line-requires g c =
     let w = g.R.Recording.word c.args.recording.now in
-    let e = c.in_ok_extent.ensures in
-    let reach = c.loop_k.invariant.2 in
-    let turn = turn_is g.Truth.Truth.kind g.Truth.Truth.means c.args.lines.now w c.requires.sheet e.has_signals c.requires.few c.loop_k.grid c.loop_k.depths c.loop_k.deepest c.loop_k.k c.loop_k_test.true reach c.loop_k.invariant.3
-    (c.depth_under.result + c.looks_back.result) c.saturating_sub_deeper.result (λ i. c.depth_under.ensures i + c.looks_back.ensures i) c.saturating_sub_deeper.ensures in
-    let ec = ap (λ m. c.saturating_sub_deeper.result * m) c.cycle_cycle.ensures in
-    let longer = reach_longer c.saturating_sub_deeper.result _ reach ec c.longer_grid.ensures in
-    let inside : c.longer_grid.result.samples ≤ horizon c.args.lines.now w = omega (arith, turn.within, ec, c.longer_grid.ensures) in
+    let e = c.in-ok-extent.ensures in
+    let reach = c.loop-k.invariant.2 in
+    let turn = turn_is g.Truth.Truth.kind g.Truth.Truth.means c.args.lines.now w c.requires.sheet e.has_signals c.requires.few c.loop-k.grid c.loop-k.depths c.loop-k.deepest c.loop-k.k c.loop-k-test.true reach c.loop-k.invariant.3
+    (c.depth-under.result + c.looks-back.result) c.saturating-sub-deeper.result (λ i. c.depth-under.ensures i + c.looks-back.ensures i) c.saturating-sub-deeper.ensures in
+    let ec = ap (λ m. c.saturating-sub-deeper.result * m) c.cycle-cycle.ensures in
+    let longer = reach_longer c.saturating-sub-deeper.result _ reach ec c.longer-grid.ensures in
+    let inside : c.longer-grid.result.samples ≤ horizon c.args.lines.now w = omega (arith, turn.within, ec, c.longer-grid.ensures) in
     record {
-      room = roomy c.repeat.new.cells _ longer (omega (arith, e.room, c.loop_k.auto.cells, c.repeat.auto.cells)) inside;
-      below = omega (arith, longer.width, c.loop_k_test.true);
+      room = roomy c.repeat.new.cells _ longer (omega (arith, e.room, c.loop-k.auto.cells, c.repeat.auto.cells)) inside;
+      below = omega (arith, longer.width, c.loop-k-test.true);
       few = omega (arith, inside, e.few, e.samples);
       turns = omega (arith, longer.samples, w.sizes.3);
-      lower = c.requires.sheet c.loop_k.k c.loop_k_test.true;
-      named = e.has_signals c.loop_k.k c.loop_k_test.true;
+      lower = c.requires.sheet c.loop-k.k c.loop-k-test.true;
+      named = e.has_signals c.loop-k.k c.loop-k-test.true;
     }
 
-pub loop_k_preserved : goal.loop_k_preserved
-loop_k_preserved g c =
+pub loop-k-preserved : goal.loop-k-preserved
+loop-k-preserved g c =
     let K = g.Truth.Truth.kind in
     let means = g.Truth.Truth.means in
     let lines = c.args.lines.now in
     let w = g.R.Recording.word c.args.recording.now in
-    let e = c.in_ok_extent.ensures in
-    let k = c.loop_k.k in
-    let reach = c.loop_k.invariant.2 in
-    let more = c.saturating_sub_deeper.result in
-    let ed : c.depth_under.result + c.looks_back.result ≡ _ = λ i. c.depth_under.ensures i + c.looks_back.ensures i in
-    let turn = turn_is K means lines w c.requires.sheet e.has_signals c.requires.few c.loop_k.grid c.loop_k.depths c.loop_k.deepest k c.loop_k_test.true reach c.loop_k.invariant.3
-    (c.depth_under.result + c.looks_back.result) more ed c.saturating_sub_deeper.ensures in
-    let ec = ap (λ m. more * m) c.cycle_cycle.ensures in
-    let longer = reach_longer more _ reach ec c.longer_grid.ensures in
-    let deeps = deep_more K means lines w c.requires.sheet e.has_signals c.loop_k.depths c.loop_k.deepest k c.loop_k_test.true (omega (arith, c.requires.few, c.loop_k_test.true)) c.loop_k.invariant.3
-    (c.depth_under.result + c.looks_back.result) more (set c.loop_k.depths k (c.depth_under.result + c.looks_back.result)) ed c.saturating_sub_deeper.ensures refl in
-    let copied : Repeated (length lines) k w.cycle c.loop_k.grid.samples (c.loop_k.grid.samples + more * c.cycle_cycle.result) c.loop_k.cells c.repeat.new.cells =
-    transport (λ i. Repeated (reach.width i) k (c.cycle_cycle.ensures i) c.loop_k.grid.samples (c.loop_k.grid.samples + more * c.cycle_cycle.result) c.loop_k.cells c.repeat.new.cells) c.repeat.ensures in
-    let cols : Columns K means lines w c.longer_grid.result.samples k c.repeat.new.cells =
-    subst (λ m. Columns K means lines w m k c.repeat.new.cells) (sym c.longer_grid.ensures.1)
-    (columns_longer K means lines w c.loop_k.grid.samples k (more * c.cycle_cycle.result) c.loop_k.cells c.repeat.new.cells
-    (omega (arith, c.loop_k_test.true)) (omega (arith, reach.samples)) (omega (arith, turn.turn, ec))
-    (steady_by K means lines w c.loop_k.depths c.loop_k.deepest k _ c.loop_k.invariant.3 (omega (arith, reach.samples, reach.steady)))
-    copied c.loop_k.invariant.0) in
-    let fills : Fills means (length lines) k c.repeat.new.cells (λ d t. written K (meant means w) c.longer_grid.result.steady c.longer_grid.result.samples (line lines k) (λ a. column means c.repeat.new.cells (length lines) a d) t) 0 c.longer_grid.result.samples c.fill_line.new.cells =
-    subst (λ m. Fills means m k c.repeat.new.cells (λ d t. written K (meant means w) c.longer_grid.result.steady c.longer_grid.result.samples (line lines k) (λ a. column means c.repeat.new.cells m a d) t) 0 c.longer_grid.result.samples c.fill_line.new.cells) longer.width c.fill_line.ensures in
-    let inside : c.longer_grid.result.samples ≤ c.in_ok_extent.extent.samples = omega (arith, turn.within, ec, c.longer_grid.ensures, e.samples) in (
-      columns_at K means lines w c.requires.sheet e.has_signals c.longer_grid.result.steady c.longer_grid.result.samples k longer.samples c.loop_k_test.true
-          (steady_by K means lines w _ _ (k + 1) _ deeps longer.steady) c.repeat.new.cells c.fill_line.new.cells fills cols,
+    let e = c.in-ok-extent.ensures in
+    let k = c.loop-k.k in
+    let reach = c.loop-k.invariant.2 in
+    let more = c.saturating-sub-deeper.result in
+    let ed : c.depth-under.result + c.looks-back.result ≡ _ = λ i. c.depth-under.ensures i + c.looks-back.ensures i in
+    let turn = turn_is K means lines w c.requires.sheet e.has_signals c.requires.few c.loop-k.grid c.loop-k.depths c.loop-k.deepest k c.loop-k-test.true reach c.loop-k.invariant.3
+    (c.depth-under.result + c.looks-back.result) more ed c.saturating-sub-deeper.ensures in
+    let ec = ap (λ m. more * m) c.cycle-cycle.ensures in
+    let longer = reach_longer more _ reach ec c.longer-grid.ensures in
+    let deeps = deep_more K means lines w c.requires.sheet e.has_signals c.loop-k.depths c.loop-k.deepest k c.loop-k-test.true (omega (arith, c.requires.few, c.loop-k-test.true)) c.loop-k.invariant.3
+    (c.depth-under.result + c.looks-back.result) more (set c.loop-k.depths k (c.depth-under.result + c.looks-back.result)) ed c.saturating-sub-deeper.ensures refl in
+    let copied : Repeated (length lines) k w.cycle c.loop-k.grid.samples (c.loop-k.grid.samples + more * c.cycle-cycle.result) c.loop-k.cells c.repeat.new.cells =
+    transport (λ i. Repeated (reach.width i) k (c.cycle-cycle.ensures i) c.loop-k.grid.samples (c.loop-k.grid.samples + more * c.cycle-cycle.result) c.loop-k.cells c.repeat.new.cells) c.repeat.ensures in
+    let cols : Columns K means lines w c.longer-grid.result.samples k c.repeat.new.cells =
+    subst (λ m. Columns K means lines w m k c.repeat.new.cells) (sym c.longer-grid.ensures.1)
+    (columns_longer K means lines w c.loop-k.grid.samples k (more * c.cycle-cycle.result) c.loop-k.cells c.repeat.new.cells
+    (omega (arith, c.loop-k-test.true)) (omega (arith, reach.samples)) (omega (arith, turn.turn, ec))
+    (steady_by K means lines w c.loop-k.depths c.loop-k.deepest k _ c.loop-k.invariant.3 (omega (arith, reach.samples, reach.steady)))
+    copied c.loop-k.invariant.0) in
+    let fills : Fills means (length lines) k c.repeat.new.cells (λ d t. written K (meant means w) c.longer-grid.result.steady c.longer-grid.result.samples (line lines k) (λ a. column means c.repeat.new.cells (length lines) a d) t) 0 c.longer-grid.result.samples c.fill-line.new.cells =
+    subst (λ m. Fills means m k c.repeat.new.cells (λ d t. written K (meant means w) c.longer-grid.result.steady c.longer-grid.result.samples (line lines k) (λ a. column means c.repeat.new.cells m a d) t) 0 c.longer-grid.result.samples c.fill-line.new.cells) longer.width c.fill-line.ensures in
+    let inside : c.longer-grid.result.samples ≤ c.in-ok-extent.extent.samples = omega (arith, turn.within, ec, c.longer-grid.ensures, e.samples) in (
+      columns_at K means lines w c.requires.sheet e.has_signals c.longer-grid.result.steady c.longer-grid.result.samples k longer.samples c.loop-k-test.true
+          (steady_by K means lines w _ _ (k + 1) _ deeps longer.steady) c.repeat.new.cells c.fill-line.new.cells fills cols,
       λ i h d.
-          further_more c.loop_k_test.true fills i (omega (arith, mul_le (length lines) c.longer_grid.result.samples (length lines) c.in_ok_extent.extent.samples (omega arith) inside)) d
-          ∙ further_longer (omega (arith, c.loop_k_test.true)) (omega (arith, inside, c.longer_grid.ensures)) copied i h d
-          ∙ c.loop_k.invariant.1 i h d,
+          further_more c.loop-k-test.true fills i (omega (arith, mul-le (length lines) c.longer-grid.result.samples (length lines) c.in-ok-extent.extent.samples (omega arith) inside)) d
+          ∙ further_longer (omega (arith, c.loop-k-test.true)) (omega (arith, inside, c.longer-grid.ensures)) copied i h d
+          ∙ c.loop-k.invariant.1 i h d,
       longer,
       deeps,
     )
 
-pub loop_grid_init : goal.loop_grid_init
-loop_grid_init g c =
+pub loop-grid-init : goal.loop-grid-init
+loop-grid-init g c =
     let K = g.Truth.Truth.kind in
     let means = g.Truth.Truth.means in
     let lines = c.args.lines.now in
     let w = g.R.Recording.word c.args.recording.now in
-    let ek : c.loop_k.k ≡ length lines = omega (arith, c.loop_k_test.false, c.loop_k.auto.k_end) in (
-      subst (λ m. Columns K means lines w c.loop_k.grid.samples m c.loop_k.cells) ek c.loop_k.invariant.0,
+    let ek : c.loop-k.k ≡ length lines = omega (arith, c.loop-k-test.false, c.loop-k.auto.k-end) in (
+      subst (λ m. Columns K means lines w c.loop-k.grid.samples m c.loop-k.cells) ek c.loop-k.invariant.0,
       λ i h d. refl,
-      subst (λ m. Steady K means lines w c.loop_k.grid.steady m) ek (steady_by K means lines w c.loop_k.depths c.loop_k.deepest c.loop_k.k _ c.loop_k.invariant.3 c.loop_k.invariant.2.steady),
-      (c.loop_k.deepest, c.loop_k.invariant.2, subst (λ m. c.loop_k.deepest ≤ pasts (line lines) m) ek c.loop_k.invariant.3.few),
+      subst (λ m. Steady K means lines w c.loop-k.grid.steady m) ek (steady_by K means lines w c.loop-k.depths c.loop-k.deepest c.loop-k.k _ c.loop-k.invariant.3 c.loop-k.invariant.2.steady),
+      (c.loop-k.deepest, c.loop-k.invariant.2, subst (λ m. c.loop-k.deepest ≤ pasts (line lines) m) ek c.loop-k.invariant.3.few),
     )
 
-pub repeat_requires_in_loop_grid : goal.repeat_requires_in_loop_grid
-repeat_requires_in_loop_grid g c =
+pub repeat-requires-in-loop-grid : goal.repeat-requires-in-loop-grid
+repeat-requires-in-loop-grid g c =
     let w = g.R.Recording.word c.args.recording.now in
-    let e = c.in_ok_extent.ensures in
-    let reach = c.loop_grid.invariant.3.1 in
-    let within = reach_more 1 reach (level_more reach (omega (arith, c.loop_grid_test.true, e.steady_is))) in
+    let e = c.in-ok-extent.ensures in
+    let reach = c.loop-grid.invariant.3.1 in
+    let within = reach_more 1 reach (level_more reach (omega (arith, c.loop-grid-test.true, e.steady_is))) in
     record {
-      room = roomy c.loop_grid.cells _ reach (omega (arith, e.room, c.loop_k.auto.cells, c.loop_grid.auto.cells)) (omega (arith, within, c.cycle_cycle.ensures));
+      room = roomy c.loop-grid.cells _ reach (omega (arith, e.room, c.loop-k.auto.cells, c.loop-grid.auto.cells)) (omega (arith, within, c.cycle-cycle.ensures));
       few = omega arith;
-      turn = (omega (arith, w.sizes.3, c.cycle_cycle.ensures), omega (arith, reach.samples, c.cycle_cycle.ensures), omega arith);
-      fits = omega (arith, within, c.cycle_cycle.ensures, e.few, e.samples);
+      turn = (omega (arith, w.sizes.3, c.cycle-cycle.ensures), omega (arith, reach.samples, c.cycle-cycle.ensures), omega arith);
+      fits = omega (arith, within, c.cycle-cycle.ensures, e.few, e.samples);
     }
 
-pub loop_grid_preserved : goal.loop_grid_preserved
-loop_grid_preserved g c =
+pub loop-grid-preserved : goal.loop-grid-preserved
+loop-grid-preserved g c =
     let K = g.Truth.Truth.kind in
     let means = g.Truth.Truth.means in
     let lines = c.args.lines.now in
     let w = g.R.Recording.word c.args.recording.now in
-    let e = c.in_ok_extent.ensures in
-    let n = c.loop_grid.invariant.3.0 in
-    let reach = c.loop_grid.invariant.3.1 in
-    let level = level_more reach (omega (arith, c.loop_grid_test.true, e.steady_is)) in
+    let e = c.in-ok-extent.ensures in
+    let n = c.loop-grid.invariant.3.0 in
+    let reach = c.loop-grid.invariant.3.1 in
+    let level = level_more reach (omega (arith, c.loop-grid-test.true, e.steady_is)) in
     let within = reach_more 1 reach level in
-    let copied : Repeated (length lines) (length lines) w.cycle c.loop_grid.grid.samples (c.loop_grid.grid.samples + c.cycle_cycle.result) c.loop_grid.cells c.repeat_in_loop_grid.new.cells =
-    transport (λ i. Repeated (reach.width i) (reach.width i) (c.cycle_cycle.ensures i) c.loop_grid.grid.samples (c.loop_grid.grid.samples + c.cycle_cycle.result) c.loop_grid.cells c.repeat_in_loop_grid.new.cells) c.repeat_in_loop_grid.ensures in (
-      subst (λ m. Columns K means lines w m (length lines) c.repeat_in_loop_grid.new.cells) (sym c.longer_grid_in_loop_grid.ensures.1)
-          (columns_longer K means lines w c.loop_grid.grid.samples (length lines) c.cycle_cycle.result c.loop_grid.cells c.repeat_in_loop_grid.new.cells
-          (omega arith) (omega (arith, reach.samples)) (omega (arith, c.cycle_cycle.ensures))
-          (λ f val a ha t ht. c.loop_grid.invariant.2 f val a ha t (omega (arith, reach.samples)))
-          copied c.loop_grid.invariant.0),
-      λ i h d. further_longer (omega arith) (omega (arith, within, c.cycle_cycle.ensures, e.samples)) copied i h d ∙ c.loop_grid.invariant.1 i h d,
-      λ f val a ha t ht. c.loop_grid.invariant.2 f val a ha t (omega (arith, c.longer_grid_in_loop_grid.ensures)),
-      (n + 1, reach_longer 1 _ reach (omega (arith, c.cycle_cycle.ensures)) c.longer_grid_in_loop_grid.ensures, level),
+    let copied : Repeated (length lines) (length lines) w.cycle c.loop-grid.grid.samples (c.loop-grid.grid.samples + c.cycle-cycle.result) c.loop-grid.cells c.repeat-in-loop-grid.new.cells =
+    transport (λ i. Repeated (reach.width i) (reach.width i) (c.cycle-cycle.ensures i) c.loop-grid.grid.samples (c.loop-grid.grid.samples + c.cycle-cycle.result) c.loop-grid.cells c.repeat-in-loop-grid.new.cells) c.repeat-in-loop-grid.ensures in (
+      subst (λ m. Columns K means lines w m (length lines) c.repeat-in-loop-grid.new.cells) (sym c.longer-grid-in-loop-grid.ensures.1)
+          (columns_longer K means lines w c.loop-grid.grid.samples (length lines) c.cycle-cycle.result c.loop-grid.cells c.repeat-in-loop-grid.new.cells
+          (omega arith) (omega (arith, reach.samples)) (omega (arith, c.cycle-cycle.ensures))
+          (λ f val a ha t ht. c.loop-grid.invariant.2 f val a ha t (omega (arith, reach.samples)))
+          copied c.loop-grid.invariant.0),
+      λ i h d. further_longer (omega arith) (omega (arith, within, c.cycle-cycle.ensures, e.samples)) copied i h d ∙ c.loop-grid.invariant.1 i h d,
+      λ f val a ha t ht. c.loop-grid.invariant.2 f val a ha t (omega (arith, c.longer-grid-in-loop-grid.ensures)),
+      (n + 1, reach_longer 1 _ reach (omega (arith, c.cycle-cycle.ensures)) c.longer-grid-in-loop-grid.ensures, level),
     )
 
-pub read_requires : goal.read_requires
-read_requires g c =
+pub read-requires : goal.read-requires
+read-requires g c =
     let w = g.R.Recording.word c.args.recording.now in
-    let e = c.in_ok_extent.ensures in
-    let reach = c.loop_grid.invariant.3.1 in
-    roomy c.loop_grid.cells 1 reach (omega (arith, e.room, c.loop_k.auto.cells, c.loop_grid.auto.cells)) (omega (arith, w.sizes.3)) 0 (c.loop_grid.grid.width - 1) (omega arith)
+    let e = c.in-ok-extent.ensures in
+    let reach = c.loop-grid.invariant.3.1 in
+    roomy c.loop-grid.cells 1 reach (omega (arith, e.room, c.loop-k.auto.cells, c.loop-grid.auto.cells)) (omega (arith, w.sizes.3)) 0 (c.loop-grid.grid.width - 1) (omega arith)
     (omega (arith, reach.width, c.requires.some))
 
 pub returns : goal.returns
@@ -182,12 +182,12 @@ returns g c =
     let means = g.Truth.Truth.means in
     let lines = c.args.lines.now in
     let w = g.R.Recording.word c.args.recording.now in
-    let e = c.in_ok_extent.ensures in
+    let e = c.in-ok-extent.ensures in
     let made = exists K (meant means w) lines c.requires.sheet e.has_signals in
-    let reach = c.loop_grid.invariant.3.1 in
-    let all : c.loop_grid.grid.samples ≡ horizon lines w = reach_all reach c.loop_grid.invariant.3.2 (omega (arith, c.loop_grid_test.false, e.steady_is)) in
-    let cells : (k t : ℕ) → k < length lines → t < horizon lines w → (d : g.row.R_Truth.Denot) → column means c.loop_grid.cells (length lines) k d t ≡ made.0 k t =
-    λ k t hk ht d. c.loop_grid.invariant.0 made.0 made.1 k hk t (omega (arith, all)) d in
+    let reach = c.loop-grid.invariant.3.1 in
+    let all : c.loop-grid.grid.samples ≡ horizon lines w = reach_all reach c.loop-grid.invariant.3.2 (omega (arith, c.loop-grid-test.false, e.steady_is)) in
+    let cells : (k t : ℕ) → k < length lines → t < horizon lines w → (d : g.row.R-Truth.Denot) → column means c.loop-grid.cells (length lines) k d t ≡ made.0 k t =
+    λ k t hk ht d. c.loop-grid.invariant.0 made.0 made.1 k hk t (omega (arith, all)) d in
     record {
       has_signals = e.has_signals;
       room = e.room;
@@ -197,11 +197,11 @@ returns g c =
       again = λ k hk. period_below K (meant means w) (line lines) (length lines) c.requires.sheet e.has_signals made.0 made.1 (length lines) (omega arith) k hk;
       cells = cells;
       further = λ i h d.
-          let far : length lines * c.in_ok_extent.extent.samples ≤ i = subst (λ m. length lines * m ≤ i) (sym e.samples) h in
-          c.loop_grid.invariant.1 i far d ∙ c.loop_k.invariant.1 i far d;
-      as_long = omega (arith, c.loop_k.auto.cells, c.loop_grid.auto.cells);
+          let far : length lines * c.in-ok-extent.extent.samples ≤ i = subst (λ m. length lines * m ≤ i) (sym e.samples) h in
+          c.loop-grid.invariant.1 i far d ∙ c.loop-k.invariant.1 i far d;
+      as_long = omega (arith, c.loop-k.auto.cells, c.loop-grid.auto.cells);
       verdict =
           ap means (sym (c.read.ensures c.read.result))
-          ∙ ap (λ m. column means c.loop_grid.cells m (m - 1) c.read.result 0) reach.width
+          ∙ ap (λ m. column means c.loop-grid.cells m (m - 1) c.read.result 0) reach.width
           ∙ cells (length lines - 1) 0 (omega (arith, c.requires.some)) (omega (arith, w.sizes.3)) c.read.result;
     }

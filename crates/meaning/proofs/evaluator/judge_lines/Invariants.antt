@@ -4,21 +4,21 @@ use Rattle.sheet.specs.Table.{line, pasts}
 use Rattle.meaning.proofs.Deep.{Deep, Reach, Steady}
 use Rattle.meaning.proofs.evaluator.judge_lines.Given as goal
 
-abbrev pub invariant_loop_k : goal.invariant_loop_k
-invariant_loop_k g l =
+abbrev pub invariant-loop-k : goal.invariant-loop-k
+invariant-loop-k g l =
     let w = g.R.Recording.word l.recording in
     Columns g.Truth.Truth.kind g.Truth.Truth.means l.lines w l.grid.samples l.k l.cells
-    × ((i : ℕ) → length l.lines * l.extent.samples ≤ i → (d : g.row.R_Truth.Denot) → get_or l.cells i d ≡ get_or l.initial.cells i d)
+    × ((i : ℕ) → length l.lines * l.extent.samples ≤ i → (d : g.row.R-Truth.Denot) → get_or l.cells i d ≡ get_or l.initial.cells i d)
     × Reach l.lines w l.grid l.deepest
     × Deep g.Truth.Truth.kind g.Truth.Truth.means l.lines w l.depths l.deepest l.k
 
-abbrev pub invariant_loop_grid : goal.invariant_loop_grid
-invariant_loop_grid g l =
+abbrev pub invariant-loop-grid : goal.invariant-loop-grid
+invariant-loop-grid g l =
     let w = g.R.Recording.word l.recording in
     Columns g.Truth.Truth.kind g.Truth.Truth.means l.lines w l.grid.samples (length l.lines) l.cells
-    × ((i : ℕ) → length l.lines * l.extent.samples ≤ i → (d : g.row.R_Truth.Denot) → get_or l.cells i d ≡ get_or l.initial.cells i d)
+    × ((i : ℕ) → length l.lines * l.extent.samples ≤ i → (d : g.row.R-Truth.Denot) → get_or l.cells i d ≡ get_or l.initial.cells i d)
     × Steady g.Truth.Truth.kind g.Truth.Truth.means l.lines w l.grid.steady (length l.lines)
     × ((n : ℕ) × Reach l.lines w l.grid n × (n ≤ pasts (line l.lines) (length l.lines)))
 
-abbrev pub decreases_loop_grid : goal.decreases_loop_grid
-decreases_loop_grid g l = l.extent.steady - l.grid.steady
+abbrev pub decreases-loop-grid : goal.decreases-loop-grid
+decreases-loop-grid g l = l.extent.steady - l.grid.steady

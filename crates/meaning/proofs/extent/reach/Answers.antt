@@ -11,11 +11,11 @@ returns g c =
     let one : suc (length lines - 1) ≡ length lines = omega (arith, c.requires.some) in
     let most : pasts (line lines) (length lines) ≤ length lines - 1 =
     subst (λ n. pasts (line lines) n ≤ length lines - 1) one (pasts_below (line lines) (c.requires.sheet 0 c.requires.some) (length lines - 1)) in
-    let few_back : c.count_back.result ≤ 63 = omega (arith, most, c.count_back.ensures.is, c.requires.few) in
-    let es : c.stem.result + c.count_back.result * c.cycle_cycle.result ≡ steady lines w =
-    ap₂ ◌+◌ c.stem.ensures (ap₂ ◌*◌ c.count_back.ensures.is c.cycle_cycle.ensures) in
+    let few_back : c.count-back.result ≤ 63 = omega (arith, most, c.count-back.ensures.is, c.requires.few) in
+    let es : c.stem.result + c.count-back.result * c.cycle-cycle.result ≡ steady lines w =
+    ap₂ ◌+◌ c.stem.ensures (ap₂ ◌*◌ c.count-back.ensures.is c.cycle-cycle.ensures) in
     record {
-      samples = ap₂ ◌+◌ es c.cycle_cycle.ensures;
+      samples = ap₂ ◌+◌ es c.cycle-cycle.ensures;
       steady = es;
-      most = few_samples _ _ _ (omega (arith, w.sizes.2, c.stem.ensures)) few_back (omega (arith, w.sizes.4, c.cycle_cycle.ensures));
+      most = few_samples _ _ _ (omega (arith, w.sizes.2, c.stem.ensures)) few_back (omega (arith, w.sizes.4, c.cycle-cycle.ensures));
     }

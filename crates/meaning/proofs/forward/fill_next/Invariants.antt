@@ -2,7 +2,7 @@ use Rattle.meaning.specs.Cells.{column, Fills}
 use Rattle.meaning.specs.Columns.{following}
 use Rattle.meaning.proofs.forward.fill_next.Given as goal
 
-abbrev pub invariant_loop_t : goal.invariant_loop_t
-invariant_loop_t g l =
+abbrev pub invariant-loop-t : goal.invariant-loop-t
+invariant-loop-t g l =
     let K = g.T.Truth in
     Fills K.means l.grid.width l.line l.initial.cells (λ d t. column K.means l.initial.cells l.grid.width l.left d (following l.grid.steady l.grid.samples t)) 0 l.t l.cells

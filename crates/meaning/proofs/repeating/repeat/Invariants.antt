@@ -1,5 +1,5 @@
 use Rattle.meaning.specs.Cells.{Repeated}
 use Rattle.meaning.proofs.repeating.repeat.Given as goal
 
-abbrev pub invariant_loop_t : goal.invariant_loop_t
-invariant_loop_t g l = Repeated l.grid.width l.lines l.cycle l.grid.samples l.t l.initial.cells l.cells
+abbrev pub invariant-loop-t : goal.invariant-loop-t
+invariant-loop-t g l = Repeated l.grid.width l.lines l.cycle l.grid.samples l.t l.initial.cells l.cells

@@ -6,38 +6,38 @@ use Rattle.run.proofs.Going.{after_none, ledger_more, story_more, story_as, law_
 use Rattle.run.proofs.Keeping.{sheet_law}
 use Rattle.run.proofs.history.carry_out.Goals as goal
 
-pub loop_i_init : goal.loop_i_init
-loop_i_init g c = (
+pub loop-i-init : goal.loop-i-init
+loop-i-init g c = (
   sym (after_none (ledger_of c.args.sheet)),
   refl,
   refl,
   law_none _ _ (ledger_of c.args.sheet) c.args.calls.now (sheet_law _ _ c.is_yes.ensures.two c.args.sheet),
 )
 
-pub loop_i_preserved : goal.loop_i_preserved
-loop_i_preserved g c =
+pub loop-i-preserved : goal.loop-i-preserved
+loop-i-preserved g c =
     let l = ledger_of c.args.sheet in
-    let here : c.loop_i.i < length c.args.calls.now = omega arith in
-    let room : c.loop_i.i < length c.loop_i.answers = omega arith in
-    let e : ledger_of c.perform_stepped.result.sheet ≡ after l (take (c.loop_i.i + 1) c.args.calls.now) =
-    ledger_more l c.args.calls.now c.loop_i.i (Write 0 0 0) (ledger_of c.loop_i.sheet) (ledger_of c.perform_stepped.result.sheet) here c.loop_i.invariant.0 c.perform_stepped.ensures.ledger in (
+    let here : c.loop-i.i < length c.args.calls.now = omega arith in
+    let room : c.loop-i.i < length c.loop-i.answers = omega arith in
+    let e : ledger_of c.perform-stepped.result.sheet ≡ after l (take (c.loop-i.i + 1) c.args.calls.now) =
+    ledger_more l c.args.calls.now c.loop-i.i (Write 0 0 0) (ledger_of c.loop-i.sheet) (ledger_of c.perform-stepped.result.sheet) here c.loop-i.invariant.0 c.perform-stepped.ensures.ledger in (
       e,
-      story_more _ _ l _ _ _ c.args.calls.now c.loop_i.answers c.loop_i.i (Write 0 0 0) c.perform_stepped.result.answer (ledger_of c.loop_i.sheet) c.note.new.items c.note.ensures
-          here room c.loop_i.invariant.0 c.loop_i.invariant.1 c.perform_stepped.ensures.tells,
-      drop_more c.args.answers.now c.loop_i.answers c.note.new.items c.loop_i.i c.perform_stepped.result.answer c.note.ensures c.loop_i.invariant.2,
-      law_more _ _ l c.args.calls.now c.loop_i.i (ledger_of c.perform_stepped.result.sheet) e c.perform_stepped.ensures.after c.loop_i.invariant.3,
+      story_more _ _ l _ _ _ c.args.calls.now c.loop-i.answers c.loop-i.i (Write 0 0 0) c.perform-stepped.result.answer (ledger_of c.loop-i.sheet) c.note.new.items c.note.ensures
+          here room c.loop-i.invariant.0 c.loop-i.invariant.1 c.perform-stepped.ensures.tells,
+      drop_more c.args.answers.now c.loop-i.answers c.note.new.items c.loop-i.i c.perform-stepped.result.answer c.note.ensures c.loop-i.invariant.2,
+      law_more _ _ l c.args.calls.now c.loop-i.i (ledger_of c.perform-stepped.result.sheet) e c.perform-stepped.ensures.after c.loop-i.invariant.3,
     )
 
 pub returns : goal.returns
 returns g c =
     let calls : List Call = c.args.calls.now in
-    let some : c.loop_i.i ≤ length calls = omega arith in
-    let made : take (length c.args.answers.now) calls ≡ take c.loop_i.i calls =
-    take_room calls (length c.args.answers.now) c.loop_i.i (omega arith) some (λ h. omega arith) in
+    let some : c.loop-i.i ≤ length calls = omega arith in
+    let made : take (length c.args.answers.now) calls ≡ take c.loop-i.i calls =
+    take_room calls (length c.args.answers.now) c.loop-i.i (omega arith) some (λ h. omega arith) in
     record {
-      ledger = c.loop_i.invariant.0 ∙ ap (after (ledger_of c.args.sheet)) (sym made);
+      ledger = c.loop-i.invariant.0 ∙ ap (after (ledger_of c.args.sheet)) (sym made);
       story = story_as _ _ _ _ _ _ _ _ _ made
-          (take_room c.loop_i.answers (length calls) c.loop_i.i some (omega arith) (λ h. omega arith)) c.loop_i.invariant.1;
-      law = law_all _ _ (ledger_of c.args.sheet) calls _ c.loop_i.i some made c.loop_i.invariant.3;
-      further = drop_room c.args.answers.now c.loop_i.answers (length calls) c.loop_i.i (omega arith) some (λ h. omega arith) c.loop_i.invariant.2;
+          (take_room c.loop-i.answers (length calls) c.loop-i.i some (omega arith) (λ h. omega arith)) c.loop-i.invariant.1;
+      law = law_all _ _ (ledger_of c.args.sheet) calls _ c.loop-i.i some made c.loop-i.invariant.3;
+      further = drop_room c.args.answers.now c.loop-i.answers (length calls) c.loop-i.i (omega arith) some (λ h. omega arith) c.loop-i.invariant.2;
     }

@@ -5,10 +5,10 @@ use Rattle.run.specs.Story.{heard, lent, Story}
 use Rattle.run.proofs.Going.{LawTo}
 use Rattle.run.proofs.history.carry_out.Given as goal
 
-abbrev pub invariant_loop_i : goal.invariant_loop_i
-invariant_loop_i g l =
-    let k = g.Truth.Truth_1 in
-    let b = g.Truth.Truth_2 in
+abbrev pub invariant-loop-i : goal.invariant-loop-i
+invariant-loop-i g l =
+    let k = g.Truth.Truth-1 in
+    let b = g.Truth.Truth-2 in
     (ledger_of l.sheet ≡ after (ledger_of l.initial.sheet) (take l.i l.calls))
     × Story (heard k.kind k.means g.R.Recording.word l.judged) (heard b.kind b.means g.B.Recording.word l.written)
     (ledger_of l.initial.sheet)

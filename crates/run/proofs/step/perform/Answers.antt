@@ -2,20 +2,20 @@ use Rattle.std.proofs.Common.{rules}
 use Rattle.run.proofs.Keeping.{sheet_law}
 use Rattle.run.proofs.step.perform.Goals as goal
 
-pub returns_in_Open : goal.returns_in_Open
-returns_in_Open g c =
+pub returns-in-Open : goal.returns-in-Open
+returns-in-Open g c =
     record {
       ledger = search rules;
       tells = search rules;
       before = sheet_law _ _ c.is_yes.ensures.two c.args.sheet;
-      after = sheet_law _ _ c.is_yes.ensures.two c.on_draft.result.sheet;
+      after = sheet_law _ _ c.is_yes.ensures.two c.on-draft.result.sheet;
     }
 
-pub returns_in_Shut : goal.returns_in_Shut
-returns_in_Shut g c =
+pub returns-in-Shut : goal.returns-in-Shut
+returns-in-Shut g c =
     record {
       ledger = search rules;
       tells = search rules;
       before = sheet_law _ _ c.is_yes.ensures.two c.args.sheet;
-      after = sheet_law _ _ c.is_yes.ensures.two c.on_sealed.result.sheet;
+      after = sheet_law _ _ c.is_yes.ensures.two c.on-sealed.result.sheet;
     }

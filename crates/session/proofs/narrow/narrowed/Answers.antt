@@ -1,18 +1,18 @@
 use Rattle.std.proofs.Common.{◌≡◌, [], ◌∷◌, ◌++◌, map, vec_items, sym, ap, ◌∙◌, arith}
-use mathlib.Core.List.{map_append}
+use mathlib.Core.List.{map-append}
 use Rattle.std.proofs.lemmas.List.{take_more, take_all}
 use Rattle.session.proofs.narrow.narrowed.Goals as goal
 
-pub returns_in_default : goal.returns_in_default
-returns_in_default g c = (c.loop_n.n_index, omega arith, c.in_default.ensures)
+pub returns-in-default : goal.returns-in-default
+returns-in-default g c = (c.loop-n.n-index, omega arith, c.in-default.ensures)
 
-pub loop_n_preserved : goal.loop_n_preserved
-loop_n_preserved g c =
+pub loop-n-preserved : goal.loop-n-preserved
+loop-n-preserved g c =
     let value = g.T.Narrow.value in
-    ap (map value) c.in_ok_push.ensures.items
-    ∙ map_append value (vec_items c.loop_n.found) (c.in_Some.x ∷ [])
-    ∙ (λ i. c.loop_n.invariant i ++ (c.in_Some.ensures i ∷ []))
-    ∙ sym (take_more c.args.numbers.now c.loop_n.n_index 0 (omega arith))
+    ap (map value) c.in-ok-push.ensures.items
+    ∙ map-append value (vec_items c.loop-n.found) (c.in-Some.x ∷ [])
+    ∙ (λ i. c.loop-n.invariant i ++ (c.in-Some.ensures i ∷ []))
+    ∙ sym (take_more c.args.numbers.now c.loop-n.n-index 0 (omega arith))
 
 pub returns : goal.returns
-returns g c = c.loop_n.invariant ∙ take_all c.loop_n.n_index c.args.numbers.now (omega arith)
+returns g c = c.loop-n.invariant ∙ take_all c.loop-n.n-index c.args.numbers.now (omega arith)

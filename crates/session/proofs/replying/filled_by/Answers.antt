@@ -7,19 +7,19 @@ use Rattle.session.specs.Replies.{filled_on}
 use Rattle.session.proofs.Counting.{filled_none, filled_first}
 use Rattle.session.proofs.replying.filled_by.Goals as goal
 
-pub returns_then_judged_eq0 : goal.returns_then_judged_eq0
-returns_then_judged_eq0 g c =
+pub returns-then-judged-eq0 : goal.returns-then-judged-eq0
+returns-then-judged-eq0 g c =
     let word = g.R.Recording.word in
-    let is : Filled = record { lines = length c.lines_lines.result.now; samples = 0 } in
-    subst (λ s. is ≡ filled_on (ledger_of s) (map word c.args.judged.now)) (sym c.in_Shut.is)
-    (filled_none word _ (sealed_lines c.in_Shut.sealed) c.lines_lines.ensures.are c.args.judged.now c.if_judged_eq0.true)
+    let is : Filled = record { lines = length c.lines-lines.result.now; samples = 0 } in
+    subst (λ s. is ≡ filled_on (ledger_of s) (map word c.args.judged.now)) (sym c.in-Shut.is)
+    (filled_none word _ (sealed_lines c.in-Shut.sealed) c.lines-lines.ensures.are c.args.judged.now c.if-judged-eq0.true)
 
-pub returns_else_judged_eq0 : goal.returns_else_judged_eq0
-returns_else_judged_eq0 g c =
+pub returns-else-judged-eq0 : goal.returns-else-judged-eq0
+returns-else-judged-eq0 g c =
     let word = g.R.Recording.word in
-    let lines = sealed_lines c.in_Shut.sealed in
-    let n = c.reach_of.result.samples in
-    let is : Filled = record { lines = length c.lines_lines.result.now; samples = n } in
-    subst (λ s. is ≡ filled_on (ledger_of s) (map word c.args.judged.now)) (sym c.in_Shut.is)
-    (filled_first word _ lines c.lines_lines.ensures.are c.args.judged.now n c.index_judged_0.result c.if_judged_eq0.false
-    (c.reach_of.ensures.samples ∙ ap (λ r. horizon lines (word r)) c.index_judged_0.is))
+    let lines = sealed_lines c.in-Shut.sealed in
+    let n = c.reach-of.result.samples in
+    let is : Filled = record { lines = length c.lines-lines.result.now; samples = n } in
+    subst (λ s. is ≡ filled_on (ledger_of s) (map word c.args.judged.now)) (sym c.in-Shut.is)
+    (filled_first word _ lines c.lines-lines.ensures.are c.args.judged.now n c.index-judged-0.result c.if-judged-eq0.false
+    (c.reach-of.ensures.samples ∙ ap (λ r. horizon lines (word r)) c.index-judged-0.is))

@@ -1,20 +1,20 @@
-use Rattle.std.proofs.Common.{◌≡◌, [], ◌∷◌, ◌++◌, is_ok, sym, refl, ap, ◌∙◌, append_nil, arith}
+use Rattle.std.proofs.Common.{◌≡◌, [], ◌∷◌, ◌++◌, is_ok, sym, refl, ap, ◌∙◌, append-nil, arith}
 use Rattle.std.proofs.Output.{has_written_append, has_written_of_eq}
 use Rattle.tables.proofs.Rows.{rows_more, rows_done}
 use Rattle.tables.proofs.row.write_rows.Goals as goal
 
-pub loop_number_preserved : goal.loop_number_preserved
-loop_number_preserved g c =
-    let iv = c.loop_number.invariant in
-    let row = g.T.Row.text c.loop_number.number c.index_rows_number.result in (
+pub loop-number-preserved : goal.loop-number-preserved
+loop-number-preserved g c =
+    let iv = c.loop-number.invariant in
+    let row = g.T.Row.text c.loop-number.number c.index-rows-number.result in (
       iv.0 ++ (row ++ (10 ∷ [])),
       (λ p.
           let one = iv.1 p in
-          let two = c.write_row.ensures one.plain (ap is_ok c.in_ok_write_row.was) in
-          let three = c.writeln.ensures.writes two.plain (ap is_ok c.in_ok_writeln.was) in
+          let two = c.write-row.ensures one.plain (ap is_ok c.in-ok-write-row.was) in
+          let three = c.writeln.ensures.writes two.plain (ap is_ok c.in-ok-writeln.was) in
           has_written_append _ _ _ _ _ _ one (has_written_append _ _ _ _ _ _ two three)),
-      rows_more g.T.Row.text c.args.rows.now c.loop_number.number c.index_rows_number.result iv.0 _ (omega arith) (sym c.index_rows_number.is) iv.2,
+      rows_more g.T.Row.text c.args.rows.now c.loop-number.number c.index-rows-number.result iv.0 _ (omega arith) (sym c.index-rows-number.is) iv.2,
     )
 
 pub returns : goal.returns
-returns g c p e = has_written_of_eq _ _ _ _ _ (rows_done g.T.Row.text c.args.rows.now c.loop_number.number _ _ (omega arith) c.loop_number.invariant.2) (c.loop_number.invariant.1 p)
+returns g c p e = has_written_of_eq _ _ _ _ _ (rows_done g.T.Row.text c.args.rows.now c.loop-number.number _ _ (omega arith) c.loop-number.invariant.2) (c.loop-number.invariant.1 p)

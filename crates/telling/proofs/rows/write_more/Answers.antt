@@ -4,18 +4,18 @@ use Rattle.telling.specs.Truths.{truth_text}
 use Rattle.telling.proofs.Spelling.{each_more, each_done}
 use Rattle.telling.proofs.rows.write_more.Goals as goal
 
-pub loop_value_preserved : goal.loop_value_preserved
-loop_value_preserved g c =
-    let iv = c.loop_value.invariant in
+pub loop-value-preserved : goal.loop-value-preserved
+loop-value-preserved g c =
+    let iv = c.loop-value.invariant in
     let three = g.T.AmongThree.three in
-    let x = c.value_item.result in (
+    let x = c.value-item.result in (
       iv.0 ++ (32 ∷ truth_text (three x)),
       (λ p.
           let one = iv.1 p in
-          let two = c.write.ensures.shows one.plain (ap is_ok c.in_ok_write.was) in
-          has_written_append _ _ _ _ _ _ one (has_written_of_eq _ _ _ _ _ (ap (λ v. 32 ∷ truth_text v) c.as_ternary.ensures) two)),
-      each_more (λ v. 32 ∷ truth_text (three v)) c.args.values.now c.loop_value.value_index x x iv.0 _ (omega arith) (sym c.value_item.is) iv.2,
+          let two = c.write.ensures.shows one.plain (ap is_ok c.in-ok-write.was) in
+          has_written_append _ _ _ _ _ _ one (has_written_of_eq _ _ _ _ _ (ap (λ v. 32 ∷ truth_text v) c.as-ternary.ensures) two)),
+      each_more (λ v. 32 ∷ truth_text (three v)) c.args.values.now c.loop-value.value-index x x iv.0 _ (omega arith) (sym c.value-item.is) iv.2,
     )
 
 pub returns : goal.returns
-returns g c p e = has_written_of_eq _ _ _ _ _ (each_done (λ v. 32 ∷ truth_text (g.T.AmongThree.three v)) c.args.values.now c.loop_value.value_index _ _ (omega arith) c.loop_value.invariant.2) (c.loop_value.invariant.1 p)
+returns g c p e = has_written_of_eq _ _ _ _ _ (each_done (λ v. 32 ∷ truth_text (g.T.AmongThree.three v)) c.args.values.now c.loop-value.value-index _ _ (omega arith) c.loop-value.invariant.2) (c.loop-value.invariant.1 p)

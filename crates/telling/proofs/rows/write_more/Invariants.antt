@@ -4,6 +4,6 @@ use Rattle.telling.specs.Truths.{more_text}
 use Rattle.telling.proofs.rows.write_more.Given as goal
 
 -- what was written, and with the values that are left it is the text
-abbrev pub invariant_loop_value : goal.invariant_loop_value
-invariant_loop_value g l =
-    (bs : List ℕ) × (IsPlainFormatter l.initial.f → HasWritten g.W.Write.write_str_gives l.initial.f bs l.f) × (bs ++ more_text g.T.AmongThree.three (drop l.value_index l.values) ≡ more_text g.T.AmongThree.three l.values)
+abbrev pub invariant-loop-value : goal.invariant-loop-value
+invariant-loop-value g l =
+    (bs : List ℕ) × (IsPlainFormatter l.initial.f → HasWritten g.W.Write.write_str_gives l.initial.f bs l.f) × (bs ++ more_text g.T.AmongThree.three (drop l.value-index l.values) ≡ more_text g.T.AmongThree.three l.values)

@@ -4,19 +4,19 @@ use Rattle.telling.specs.Truths.{row_text}
 use Rattle.telling.proofs.Spelling.{sample_more, samples_done}
 use Rattle.telling.proofs.rows.write_rows.Goals as goal
 
-pub loop_t_preserved : goal.loop_t_preserved
-loop_t_preserved g c =
-    let iv = c.loop_t.invariant in
+pub loop-t-preserved : goal.loop-t-preserved
+loop-t-preserved g c =
+    let iv = c.loop-t.invariant in
     let three = g.T.AmongThree.three in
-    let left : c.args.samples - c.loop_t.t ≡ suc (c.args.samples - (c.loop_t.t + 1)) = omega arith in (
-      iv.0 ++ (row_text three (take (c.min_width.result - 0) c.loop_t.rest.now) ++ (10 ∷ [])),
+    let left : c.args.samples - c.loop-t.t ≡ suc (c.args.samples - (c.loop-t.t + 1)) = omega arith in (
+      iv.0 ++ (row_text three (take (c.min-width.result - 0) c.loop-t.rest.now) ++ (10 ∷ [])),
       (λ p.
           let one = iv.1 p in
-          let two = c.write_row.ensures one.plain (ap is_ok c.in_ok_write_row.was) in
-          let next = c.writeln.ensures.writes two.plain (ap is_ok c.in_ok_writeln.was) in
+          let two = c.write-row.ensures one.plain (ap is_ok c.in-ok-write-row.was) in
+          let next = c.writeln.ensures.writes two.plain (ap is_ok c.in-ok-writeln.was) in
           has_written_append _ _ _ _ _ _ one (has_written_append _ _ _ _ _ _ two next)),
-      sample_more three c.args.lines _ _ c.min_width.result c.loop_t.rest.now iv.0 _ c.min_width.ensures left iv.2,
+      sample_more three c.args.lines _ _ c.min-width.result c.loop-t.rest.now iv.0 _ c.min-width.ensures left iv.2,
     )
 
 pub returns : goal.returns
-returns g c p e = has_written_of_eq _ _ _ _ _ (samples_done g.T.AmongThree.three c.args.lines _ c.loop_t.rest.now _ _ (omega arith) c.loop_t.invariant.2) (c.loop_t.invariant.1 p)
+returns g c p e = has_written_of_eq _ _ _ _ _ (samples_done g.T.AmongThree.three c.args.lines _ c.loop-t.rest.now _ _ (omega arith) c.loop-t.invariant.2) (c.loop-t.invariant.1 p)

@@ -5,8 +5,8 @@ use Rattle.calls.proofs.Parting.{before}
 use Rattle.calls.proofs.call.reading.read_numbers.Given as goal
 
 -- what was found goes before the numbers of the rest
-abbrev pub invariant_loop_number : goal.invariant_loop_number
-invariant_loop_number l = numbers (parts 32 l.text) ≡ before (vec_items l.found) (numbers (parts 32 l.rest))
+abbrev pub invariant-loop-number : goal.invariant-loop-number
+invariant-loop-number l = numbers (parts 32 l.text) ≡ before (vec_items l.found) (numbers (parts 32 l.rest))
 
-abbrev pub decreases_loop_number : goal.decreases_loop_number
-decreases_loop_number l = length l.rest
+abbrev pub decreases-loop-number : goal.decreases-loop-number
+decreases-loop-number l = length l.rest

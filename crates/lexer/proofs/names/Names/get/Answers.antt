@@ -3,8 +3,8 @@ use Rattle.lexer.specs.Names.{line_of}
 use Rattle.lexer.proofs.Naming.{few, nth_name}
 use Rattle.lexer.proofs.names.Names.get.Goals as goal
 
-pub returns_then_number_ge32 : goal.returns_then_number_ge32
-returns_then_number_ge32 c = omega (arith, few (line_of c.args.self.now))
+pub returns-then-number-ge32 : goal.returns-then-number-ge32
+returns-then-number-ge32 c = omega (arith, few (line_of c.args.self.now))
 
 pub returns : goal.returns
-returns c = nth_name (line_of c.args.self.now) c.args.number c.nth_part.result c.if_number_ge32.false c.nth_part.ensures
+returns c = nth_name (line_of c.args.self.now) c.args.number c.nth-part.result c.if-number-ge32.false c.nth-part.ensures

@@ -6,12 +6,12 @@ use Rattle.machine.specs.Translation.{signed}
 use Rattle.machine.proofs.Passing.{rule_first, pass_turn}
 use Rattle.machine.proofs.signs.pass.signs_of.Goals as goal
 
-pub loop_k_init : goal.loop_k_init
-loop_k_init c a s =
+pub loop-k-init : goal.loop-k-init
+loop-k-init c a s =
     let ls = c.args.lines.now in
     rule_first (rule_of ls) (omega (arith, c.requires)) a s ∙ ap (λ m. signed (line ls) (rule_of ls) (length ls) m a s) (sym (sub_self (length ls)))
 
-pub loop_k_preserved : goal.loop_k_preserved
-loop_k_preserved c =
+pub loop-k-preserved : goal.loop-k-preserved
+loop-k-preserved c =
     let ls = c.args.lines.now in
-    pass_turn (line ls) (rule_of ls) (length ls) c.loop_k.k c.loop_k.signs c.hand_on.new.signs (omega arith) (omega arith) c.loop_k.invariant c.hand_on.ensures
+    pass_turn (line ls) (rule_of ls) (length ls) c.loop-k.k c.loop-k.signs c.hand-on.new.signs (omega arith) (omega arith) c.loop-k.invariant c.hand-on.ensures

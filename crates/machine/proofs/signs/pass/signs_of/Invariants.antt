@@ -7,5 +7,5 @@ use Rattle.machine.specs.Working.{sign_in}
 use Rattle.machine.proofs.signs.pass.signs_of.Given as goal
 
 -- the signs by the lines from k on
-abbrev pub invariant_loop_k : goal.invariant_loop_k
-invariant_loop_k l = (a : ℕ) (s : Sign) → sign_in l.signs a s ≡ signed (line l.lines) (rule_of l.lines) l.k (length l.lines - l.k) a s
+abbrev pub invariant-loop-k : goal.invariant-loop-k
+invariant-loop-k l = (a : ℕ) (s : Sign) → sign_in l.signs a s ≡ signed (line l.lines) (rule_of l.lines) l.k (length l.lines - l.k) a s

@@ -5,25 +5,25 @@ use Rattle.session.proofs.Sizing.{same_numbers}
 use Rattle.session.proofs.Straying.{strays, placed}
 use Rattle.session.proofs.bench.checking.check_numbers.Goals as goal
 
-pub returns_in_Some : goal.returns_in_Some
-returns_in_Some g c =
+pub returns-in-Some : goal.returns-in-Some
+returns-in-Some g c =
     let w = g.R.Recording.word c.args.recording.now in
     let m = tables c.args.machine.now in (
       c.check.result,
       placed g.Truth.Truth.kind g.Truth.Truth.means m w c.args.rows.now c.args.back c.place.result c.check.result c.place.ensures
           (subst (λ xs. Answer g.Truth.Truth.kind g.Truth.Truth.means m w xs c.place.result c.check.result)
-          (same_numbers (2 ^ 64) c.args.rows.now _ _ _ c.as_slice.ensures.value c.in_Some.is c.in_ok_rows.ensures)
+          (same_numbers (2 ^ 64) c.args.rows.now _ _ _ c.as-slice.ensures.value c.in-Some.is c.in-ok-rows.ensures)
           c.check.ensures),
       c.told.ensures,
     )
 
-pub returns_in_ok_blank : goal.returns_in_ok_blank
-returns_in_ok_blank g c =
+pub returns-in-ok-blank : goal.returns-in-ok-blank
+returns-in-ok-blank g c =
     let w = g.R.Recording.word c.args.recording.now in
     let m = tables c.args.machine.now in
-    let size : length c.args.rows.now ≡ length c.as_slice_in_None.result.now = omega (arith, c.as_slice_in_None.ensures.len, c.in_ok_blank.ensures.len) in (
-      c.check_stray.result,
-      placed g.Truth.Truth.kind g.Truth.Truth.means m w c.args.rows.now c.args.back c.place_in_None.result c.check_stray.result c.place_in_None.ensures
-          (c.check_stray.ensures c.args.rows.now size (strays c.args.machine.now c.args.rows.now _ c.in_None.is c.in_ok_rows.ensures)),
-      c.told_in_None.ensures,
+    let size : length c.args.rows.now ≡ length c.as-slice-in-None.result.now = omega (arith, c.as-slice-in-None.ensures.len, c.in-ok-blank.ensures.len) in (
+      c.check-stray.result,
+      placed g.Truth.Truth.kind g.Truth.Truth.means m w c.args.rows.now c.args.back c.place-in-None.result c.check-stray.result c.place-in-None.ensures
+          (c.check-stray.ensures c.args.rows.now size (strays c.args.machine.now c.args.rows.now _ c.in-None.is c.in-ok-rows.ensures)),
+      c.told-in-None.ensures,
     )

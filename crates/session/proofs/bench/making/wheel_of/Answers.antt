@@ -3,4 +3,4 @@ use Rattle.session.proofs.bench.making.wheel_of.Goals as goal
 
 pub returns : goal.returns
 returns c =
-    wheel_sized c.args.teeth c.args.gap c.args.start _ _ _ c.size.ensures c.size_2.ensures c.size_3.ensures c.new.result c.new.ensures
+    wheel_sized c.args.teeth c.args.gap c.args.start _ _ _ c.size.ensures c.size-2.ensures c.size-3.ensures c.new.result c.new.ensures

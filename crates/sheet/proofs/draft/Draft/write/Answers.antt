@@ -1,14 +1,14 @@
-use Rattle.std.proofs.Common.{sym, ◌∙◌, arith, length_set}
+use Rattle.std.proofs.Common.{sym, ◌∙◌, arith, length-set}
 use Rattle.sheet.proofs.Front.{lower_more, named_fits, write_done}
 use Rattle.sheet.proofs.draft.Draft.write.Goals as goal
 
-pub invariant_of_self : goal.invariant_of_self
-invariant_of_self c = (
-  length_set c.args.self.now.lines c.args.self.now.count c.in_Some.line ∙ c.args.self.now.whole,
+pub invariant-of-self : goal.invariant-of-self
+invariant-of-self c = (
+  length-set c.args.self.now.lines c.args.self.now.count c.in-Some.line ∙ c.args.self.now.whole,
   (
     omega (arith, c.args.self.now.room),
     (
-      lower_more c.args.self.now c.in_Some.line (omega (arith, c.args.self.now.room)) (named_fits c.args.self.now.count c.args.code c.args.left c.args.right c.in_Some.line (sym c.in_Some.ensures) (sym c.if_not_allows.ensures)),
+      lower_more c.args.self.now c.in-Some.line (omega (arith, c.args.self.now.room)) (named_fits c.args.self.now.count c.args.code c.args.left c.args.right c.in-Some.line (sym c.in-Some.ensures) (sym c.if-not-allows.ensures)),
       tt,
     ),
   ),
@@ -16,4 +16,4 @@ invariant_of_self c = (
 
 pub returns : goal.returns
 returns c =
-    write_done c.args.self.now c.args.code c.args.left c.args.right c.in_Some.line (sym c.in_Some.ensures) (sym c.if_not_allows.ensures) (omega (arith, c.args.self.now.room))
+    write_done c.args.self.now c.args.code c.args.left c.args.right c.in-Some.line (sym c.in-Some.ensures) (sym c.if-not-allows.ensures) (omega (arith, c.args.self.now.room))

@@ -3,5 +3,5 @@ use Rattle.std.proofs.Output.{has_written_of_eq}
 use Rattle.telling.specs.Telling.{answer_text}
 use Rattle.telling.proofs.display.AnswerTextDisplay.fmt.Goals as goal
 
-pub returns_in_NotTwoValued_clause_writes : goal.returns_in_NotTwoValued_clause_writes
-returns_in_NotTwoValued_clause_writes g c p e = has_written_of_eq _ _ _ _ _ (ap answer_text (sym c.in_NotTwoValued.is)) (c.write_in_NotTwoValued.ensures.shows p e)
+pub returns-in-NotTwoValued-clause-writes : goal.returns-in-NotTwoValued-clause-writes
+returns-in-NotTwoValued-clause-writes g c p e = has_written_of_eq _ _ _ _ _ (ap answer_text (sym c.in-NotTwoValued.is)) (c.write-in-NotTwoValued.ensures.shows p e)

@@ -4,9 +4,9 @@ use Rattle.session.proofs.Lending.{take_lent}
 use Rattle.telling.specs.Truths.{numbers_text}
 use Rattle.telling.proofs.rows.RunRowsDisplay.fmt.Goals as goal
 
-pub returns_clause_writes : goal.returns_clause_writes
-returns_clause_writes g c p e =
+pub returns-clause-writes : goal.returns-clause-writes
+returns-clause-writes g c p e =
     let count = c.args.self.now.count in
     has_written_of_eq _ _ _ _ _
-    (ap numbers_text (take_lent c.as_slice_rows.result.now count c.min_count.result c.min_count.ensures ∙ ap (take count) c.as_slice_rows.ensures.value))
-    (c.write_numbers.ensures p e)
+    (ap numbers_text (take_lent c.as-slice-rows.result.now count c.min-count.result c.min-count.ensures ∙ ap (take count) c.as-slice-rows.ensures.value))
+    (c.write-numbers.ensures p e)
