@@ -1,4 +1,6 @@
 // What a customer can tell from the contracts of the calls alone.
+#![tactic(auto)]
+
 ghost use Rattle.std.specs.Prelude.{◌≡◌, ◌≤◌, length, take, IfOk, slice_index_or};
 ghost use Rattle.recording.specs.Kinds.{three, two};
 ghost use Rattle.recording.specs.Made.{gapped_word, tape_word};

@@ -1,4 +1,6 @@
 // Worked examples, proved from the meanings alone.
+#![tactic(auto)]
+
 ghost use Rattle.examples.specs.Worked.{WorkedExamples};
 
 use recording::truth::{Truth, TwoValued};

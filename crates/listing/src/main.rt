@@ -1,4 +1,6 @@
 // Reads a bench file on standard input, and prints the machine of its rule and the verdict, or a refusal.
+#![tactic(auto)]
+
 use bench_file::report::{CELLS, report};
 use input::read_input;
 use recording::truth::Ternary;

@@ -1,4 +1,6 @@
 // A small symbolic machine in a fixed place, and the signed translation of a sealed sheet into it.
+#![tactic(auto)]
+
 pub mod gate;
 pub mod place;
 pub mod signs;

@@ -1,5 +1,5 @@
 -- An until's value at the steady sample is one pass over a cycle.
-use Rattle.std.proofs.Common.{◌≡◌, ℕ, zero, suc, ◌+◌, ◌-◌, ◌*◌, ◌<◌, ◌≤◌, length, sym, ap, ◌∙◌, subst, ap₂, not-suc-le-zero, add-zero, add-suc, suc-add, arith}
+use Rattle.std.proofs.Common.{◌≡◌, ℕ, zero, suc, ◌+◌, ◌-◌, ◌<◌, ◌≤◌, sym, ap, ◌∙◌, subst, ap₂, not-suc-le-zero, add-zero, add-suc, suc-add, arith}
 use Rattle.recording.specs.Kind.{Kind, AtMost}
 use Rattle.recording.specs.Word.{Word}
 use Rattle.sheet.specs.declared.line.Line.{Line}
@@ -11,7 +11,7 @@ use Rattle.meaning.proofs.Lattice.{at_anti, at_eq, at_refl, at_trans, and_left, 
 use Rattle.meaning.proofs.Folds.{ands_at, at_ands, ands_fewer, ors_at, and_ors}
 use Rattle.meaning.proofs.OneValue.{until_one}
 use Rattle.meaning.proofs.Period.{n_above, above_n, n_under, under_n}
-use Rattle.meaning.proofs.Build.{below_all, is_until, is_always, until_value}
+use Rattle.meaning.proofs.Build.{below_all, is_until, until_value}
 
 module _ (K : Kind) where
   -- a pass is c or (d and z)

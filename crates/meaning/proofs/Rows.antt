@@ -6,7 +6,7 @@ use Rattle.recording.specs.Kind.{Kind}
 use Rattle.recording.specs.Word.{Word, meant}
 use Rattle.sheet.specs.declared.line.Line.{Line}
 use Rattle.sheet.specs.declared.line.Line.TheVariants.{Const, Signal, Not, And, Or, Next, Until, WeakUntil, Previous, WeakPrevious, Since, WeakSince}
-use Rattle.sheet.specs.Table.{line, Lower, past, pasts}
+use Rattle.sheet.specs.Table.{Lower, past, pasts}
 use Rattle.meaning.specs.Sheet.{Values, Periodic, ands, since, before, Row, Valuation}
 use Rattle.meaning.specs.Judging.{pass, TwoPasses, Future}
 use Rattle.meaning.proofs.Lattice.{at_anti, and_right, no_at}

@@ -15,7 +15,7 @@ pub(crate) fn fill_previous<T: Truth>(
     start: T,
 )
     requires { (Room cells.old grid.width grid.samples) × ((line < grid.width) × (left < line)) }
-    ensures { Fills means grid.width line cells.old (λ d t. before kind (means start) (column means cells.old grid.width left d) t) 0 grid.samples cells.new }
+    ensures { Fills T.means grid.width line cells.old (λ d t. before T.kind (T.means start) (column T.means cells.old grid.width left d) t) 0 grid.samples cells.new }
 {
     let mut held = start;
     for t in 0..grid.samples {
@@ -33,7 +33,7 @@ pub(crate) fn fill_since<T: Truth>(
     start: T,
 )
     requires { (Room cells.old grid.width grid.samples) × ((line < grid.width) × ((left < line) × (right < line))) }
-    ensures { Fills means grid.width line cells.old (λ d t. carried kind (column means cells.old grid.width left d) (column means cells.old grid.width right d) (means start) (suc t)) 0 grid.samples cells.new }
+    ensures { Fills T.means grid.width line cells.old (λ d t. carried T.kind (column T.means cells.old grid.width left d) (column T.means cells.old grid.width right d) (T.means start) (suc t)) 0 grid.samples cells.new }
 {
     let mut held = start;
     for t in 0..grid.samples {

@@ -24,7 +24,7 @@ use sheet::sealed::Sealed;
 
 // no for 0, yes for 1
 fn truth_of<T: Truth>(bit: bool) -> T
-    ensures { means result ≡ constant kind bit }
+    ensures { T.means result ≡ constant T.kind bit }
 {
     if bit { T::yes() } else { T::no() }
 }

@@ -22,7 +22,7 @@ impl Grid {
 
 pub(crate) fn fill_next<T: Truth>(cells: &mut [T], grid: Grid, line: usize, left: usize)
     requires { (Room cells.old grid.width grid.samples) × ((line < grid.width) × ((left < line) × (grid.steady < grid.samples))) }
-    ensures { Fills means grid.width line cells.old (λ d t. column means cells.old grid.width left d (next_sample grid.steady grid.samples t)) 0 grid.samples cells.new }
+    ensures { Fills T.means grid.width line cells.old (λ d t. column T.means cells.old grid.width left d (next_sample grid.steady grid.samples t)) 0 grid.samples cells.new }
 {
     for t in 0..grid.samples {
         let value = read(cells, grid.width, left, grid.following(t));
@@ -33,7 +33,7 @@ pub(crate) fn fill_next<T: Truth>(cells: &mut [T], grid: Grid, line: usize, left
 // One pass down the last cycle, from `start` behind it.
 pub(crate) fn sweep<T: Truth>(cells: &[T], grid: Grid, left: usize, right: usize, start: T) -> T
     requires { (Room cells.now grid.width grid.samples) × ((left < grid.width) × ((right < grid.width) × (grid.steady < grid.samples))) }
-    ensures { (d : T) → means result ≡ pass kind (column means cells.now grid.width left d) (column means cells.now grid.width right d) grid.steady (grid.samples - grid.steady) (means start) }
+    ensures { (d : T) → T.means result ≡ pass T.kind (column T.means cells.now grid.width left d) (column T.means cells.now grid.width right d) grid.steady (grid.samples - grid.steady) (T.means start) }
 {
     let mut held = start;
     for t in (grid.steady..grid.samples).rev() {
@@ -54,7 +54,7 @@ pub(crate) fn fill_until<T: Truth>(
     start: T,
 )
     requires { (Room cells.old grid.width grid.samples) × ((line < grid.width) × ((left < line) × ((right < line) × (grid.steady < grid.samples)))) }
-    ensures { Fills means grid.width line cells.old (λ d t. passes kind (column means cells.old grid.width left d) (column means cells.old grid.width right d) grid.steady grid.samples (means start) t) 0 grid.samples cells.new }
+    ensures { Fills T.means grid.width line cells.old (λ d t. passes T.kind (column T.means cells.old grid.width left d) (column T.means cells.old grid.width right d) grid.steady grid.samples (T.means start) t) 0 grid.samples cells.new }
 {
     let mut held = sweep(cells, grid, left, right, start);
     for t in (0..grid.samples).rev() {

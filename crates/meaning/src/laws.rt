@@ -6,17 +6,17 @@ use recording::truth::{Truth, TwoValued};
 
 /// Every sheet has a valuation on every word that has its signals.
 pub fn has_valuation<T: Truth>()
-    ensures { Exists kind }
+    ensures { Exists T.kind }
 {}
 
 /// A sheet has no two valuations on a word.
 pub fn one_valuation<T: Truth>()
-    ensures { Unique kind }
+    ensures { Unique T.kind }
 {}
 
 /// From the stem on, and a cycle for each line up to it that looks back, the values of a line repeat.
 pub fn lines_repeat<T: Truth>()
-    ensures { Repeats kind }
+    ensures { Repeats T.kind }
 {}
 
 /// At a two-valued kind each operator is what temporal logic with past says of it.

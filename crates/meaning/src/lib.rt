@@ -1,4 +1,6 @@
 // What the lines of a sheet mean on a recording, and the one evaluator.
+#![tactic(auto)]
+
 mod backward;
 mod cells;
 mod depth;

@@ -8,7 +8,7 @@ use recording::truth::Truth;
 
 pub(crate) fn fill_constant<T: Truth>(cells: &mut [T], grid: Grid, line: usize, value: T)
     requires { (Room cells.old grid.width grid.samples) × (line < grid.width) }
-    ensures { Fills means grid.width line cells.old (λ d t. means value) 0 grid.samples cells.new }
+    ensures { Fills T.means grid.width line cells.old (λ d t. T.means value) 0 grid.samples cells.new }
 {
     for t in 0..grid.samples {
         put(cells, grid.width, line, t, value);
@@ -17,7 +17,7 @@ pub(crate) fn fill_constant<T: Truth>(cells: &mut [T], grid: Grid, line: usize, 
 
 pub(crate) fn fill_not<T: Truth>(cells: &mut [T], grid: Grid, line: usize, left: usize)
     requires { (Room cells.old grid.width grid.samples) × ((line < grid.width) × (left < line)) }
-    ensures { Fills means grid.width line cells.old (λ d t. kind.Not (column means cells.old grid.width left d t)) 0 grid.samples cells.new }
+    ensures { Fills T.means grid.width line cells.old (λ d t. T.kind.Not (column T.means cells.old grid.width left d t)) 0 grid.samples cells.new }
 {
     for t in 0..grid.samples {
         let value = read(cells, grid.width, left, t).not();
@@ -33,7 +33,7 @@ pub(crate) fn fill_and<T: Truth>(
     right: usize,
 )
     requires { (Room cells.old grid.width grid.samples) × ((line < grid.width) × ((left < line) × (right < line))) }
-    ensures { Fills means grid.width line cells.old (λ d t. kind.And (column means cells.old grid.width left d t) (column means cells.old grid.width right d t)) 0 grid.samples cells.new }
+    ensures { Fills T.means grid.width line cells.old (λ d t. T.kind.And (column T.means cells.old grid.width left d t) (column T.means cells.old grid.width right d t)) 0 grid.samples cells.new }
 {
     for t in 0..grid.samples {
         let l = read(cells, grid.width, left, t);
@@ -44,7 +44,7 @@ pub(crate) fn fill_and<T: Truth>(
 
 pub(crate) fn fill_or<T: Truth>(cells: &mut [T], grid: Grid, line: usize, left: usize, right: usize)
     requires { (Room cells.old grid.width grid.samples) × ((line < grid.width) × ((left < line) × (right < line))) }
-    ensures { Fills means grid.width line cells.old (λ d t. kind.Or (column means cells.old grid.width left d t) (column means cells.old grid.width right d t)) 0 grid.samples cells.new }
+    ensures { Fills T.means grid.width line cells.old (λ d t. T.kind.Or (column T.means cells.old grid.width left d t) (column T.means cells.old grid.width right d t)) 0 grid.samples cells.new }
 {
     for t in 0..grid.samples {
         let l = read(cells, grid.width, left, t);

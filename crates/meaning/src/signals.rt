@@ -9,7 +9,7 @@ use sheet::line::Line;
 
 // Asks the recording for the signal that a line names; where it has none, that is the refusal.
 pub(crate) fn ask<R: Recording>(one: Line, recording: &R) -> Result<(), Refusal>
-    ensures { MatchResult result (λ _. Named (word recording.now).signals one) (λ e. (e ≡ NoSignal) × (Named (word recording.now).signals one → ⊥)) }
+    ensures { MatchResult result (λ _. Named (R.word recording.now).signals one) (λ e. (e ≡ NoSignal) × (Named (R.word recording.now).signals one → ⊥)) }
 {
     match one {
         Line::Signal(signal) => match recording.value(signal as u32, 0) {
@@ -32,7 +32,7 @@ pub(crate) fn ask<R: Recording>(one: Line, recording: &R) -> Result<(), Refusal>
 
 // Asks for the signals of all lines.
 pub(crate) fn ask_all<R: Recording>(lines: &[Line], recording: &R) -> Result<(), Refusal>
-    ensures { MatchResult result (λ _. HasSignals lines.now (word recording.now).signals) (λ e. (e ≡ NoSignal) × (HasSignals lines.now (word recording.now).signals → ⊥)) }
+    ensures { MatchResult result (λ _. HasSignals lines.now (R.word recording.now).signals) (λ e. (e ≡ NoSignal) × (HasSignals lines.now (R.word recording.now).signals → ⊥)) }
 {
     for k in 0..lines.len() {
         ask(lines[k], recording)?;

@@ -1,5 +1,7 @@
 // Writing out the run of a sealed sheet on a two-valued recording; and calls on a sheet, one after another, with all that
 // holds of them.
+#![tactic(auto)]
+
 pub mod answer;
 mod bits;
 mod by_form;

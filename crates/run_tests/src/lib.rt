@@ -1,3 +1,5 @@
 // Runs written out and checked, and histories of calls, on examples.
+#![tactic(auto)]
+
 #[cfg(test)]
 mod tests;

@@ -1,4 +1,6 @@
 // Reads calls from standard input, one a line, and prints each answer before the next call is made.
+#![tactic(auto)]
+
 use calls::call::reading::read_call;
 use calls::call::{Call, Verb};
 use input::read_input;

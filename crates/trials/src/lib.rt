@@ -1,4 +1,6 @@
 // The run check as a caller has it, on tapes.
+#![tactic(auto)]
+
 ghost use Rattle.recording.specs.Kinds.{two};
 ghost use Rattle.recording.specs.Made.{tape_word};
 ghost use Rattle.checker.specs.CheckAnswer.{Answer};

@@ -9,70 +9,70 @@ use Rattle.meaning.proofs.evaluator.fill_line.Goals as goal
 
 pub returns-in-Const : goal.returns-in-Const
 returns-in-Const g c =
-    as_line g.Truth.Truth.kind (meant g.Truth.Truth.means (g.R.Recording.word c.args.recording.now)) c.args.grid.steady c.args.grid.samples
-    c.in-Const.is (filled_as (λ d t _ _. c.truth-of.ensures) c.fill-constant.ensures)
+    as_line g.R.Truth.Truth.kind (meant g.R.Truth.Truth.means (g.R.Recording.word c.args.recording.now)) c.args.grid.steady c.args.grid.samples
+    c.in-Const.is (filled_as (λ d t _ _. c.truth_of.ensures) c.fill_constant.ensures)
 
 pub returns-in-Signal : goal.returns-in-Signal
 returns-in-Signal g c =
-    as_line g.Truth.Truth.kind (meant g.Truth.Truth.means (g.R.Recording.word c.args.recording.now)) c.args.grid.steady c.args.grid.samples
-    c.in-Signal.is c.fill-signal.ensures
+    as_line g.R.Truth.Truth.kind (meant g.R.Truth.Truth.means (g.R.Recording.word c.args.recording.now)) c.args.grid.steady c.args.grid.samples
+    c.in-Signal.is c.fill_signal.ensures
 
 pub returns-in-Not : goal.returns-in-Not
 returns-in-Not g c =
-    as_line g.Truth.Truth.kind (meant g.Truth.Truth.means (g.R.Recording.word c.args.recording.now)) c.args.grid.steady c.args.grid.samples
-    c.in-Not.is c.fill-not.ensures
+    as_line g.R.Truth.Truth.kind (meant g.R.Truth.Truth.means (g.R.Recording.word c.args.recording.now)) c.args.grid.steady c.args.grid.samples
+    c.in-Not.is c.fill_not.ensures
 
 pub returns-in-And : goal.returns-in-And
 returns-in-And g c =
-    as_line g.Truth.Truth.kind (meant g.Truth.Truth.means (g.R.Recording.word c.args.recording.now)) c.args.grid.steady c.args.grid.samples
-    c.in-And.is c.fill-and.ensures
+    as_line g.R.Truth.Truth.kind (meant g.R.Truth.Truth.means (g.R.Recording.word c.args.recording.now)) c.args.grid.steady c.args.grid.samples
+    c.in-And.is c.fill_and.ensures
 
 pub returns-in-Or : goal.returns-in-Or
 returns-in-Or g c =
-    as_line g.Truth.Truth.kind (meant g.Truth.Truth.means (g.R.Recording.word c.args.recording.now)) c.args.grid.steady c.args.grid.samples
-    c.in-Or.is c.fill-or.ensures
+    as_line g.R.Truth.Truth.kind (meant g.R.Truth.Truth.means (g.R.Recording.word c.args.recording.now)) c.args.grid.steady c.args.grid.samples
+    c.in-Or.is c.fill_or.ensures
 
 pub returns-in-Next : goal.returns-in-Next
 returns-in-Next g c =
-    as_line g.Truth.Truth.kind (meant g.Truth.Truth.means (g.R.Recording.word c.args.recording.now)) c.args.grid.steady c.args.grid.samples
-    c.in-Next.is c.fill-next.ensures
+    as_line g.R.Truth.Truth.kind (meant g.R.Truth.Truth.means (g.R.Recording.word c.args.recording.now)) c.args.grid.steady c.args.grid.samples
+    c.in-Next.is c.fill_next.ensures
 
 pub returns-in-Until : goal.returns-in-Until
 returns-in-Until g c =
-    let left = λ (d : g.row.R-Truth.Denot). column g.Truth.Truth.means c.args.cells.now c.args.grid.width c.in-Until.a d in
-    let right = λ (d : g.row.R-Truth.Denot). column g.Truth.Truth.means c.args.cells.now c.args.grid.width c.in-Until.b d in
-    as_line g.Truth.Truth.kind (meant g.Truth.Truth.means (g.R.Recording.word c.args.recording.now)) c.args.grid.steady c.args.grid.samples
-    c.in-Until.is (filled_as (λ d t _ _. ap (λ z. passes g.Truth.Truth.kind (left d) (right d) c.args.grid.steady c.args.grid.samples z t) c.no-no.ensures) c.fill-until.ensures)
+    let left = λ (d : g.row.R-Truth.Denot). column g.R.Truth.Truth.means c.args.cells.now c.args.grid.width c.in-Until.a d in
+    let right = λ (d : g.row.R-Truth.Denot). column g.R.Truth.Truth.means c.args.cells.now c.args.grid.width c.in-Until.b d in
+    as_line g.R.Truth.Truth.kind (meant g.R.Truth.Truth.means (g.R.Recording.word c.args.recording.now)) c.args.grid.steady c.args.grid.samples
+    c.in-Until.is (filled_as (λ d t _ _. ap (λ z. passes g.R.Truth.Truth.kind (left d) (right d) c.args.grid.steady c.args.grid.samples z t) c.no-no.ensures) c.fill_until.ensures)
 
 pub returns-in-WeakUntil : goal.returns-in-WeakUntil
 returns-in-WeakUntil g c =
-    let left = λ (d : g.row.R-Truth.Denot). column g.Truth.Truth.means c.args.cells.now c.args.grid.width c.in-WeakUntil.a d in
-    let right = λ (d : g.row.R-Truth.Denot). column g.Truth.Truth.means c.args.cells.now c.args.grid.width c.in-WeakUntil.b d in
-    as_line g.Truth.Truth.kind (meant g.Truth.Truth.means (g.R.Recording.word c.args.recording.now)) c.args.grid.steady c.args.grid.samples
-    c.in-WeakUntil.is (filled_as (λ d t _ _. ap (λ z. passes g.Truth.Truth.kind (left d) (right d) c.args.grid.steady c.args.grid.samples z t) c.yes-yes.ensures) c.fill-until-in-WeakUntil.ensures)
+    let left = λ (d : g.row.R-Truth.Denot). column g.R.Truth.Truth.means c.args.cells.now c.args.grid.width c.in-WeakUntil.a d in
+    let right = λ (d : g.row.R-Truth.Denot). column g.R.Truth.Truth.means c.args.cells.now c.args.grid.width c.in-WeakUntil.b d in
+    as_line g.R.Truth.Truth.kind (meant g.R.Truth.Truth.means (g.R.Recording.word c.args.recording.now)) c.args.grid.steady c.args.grid.samples
+    c.in-WeakUntil.is (filled_as (λ d t _ _. ap (λ z. passes g.R.Truth.Truth.kind (left d) (right d) c.args.grid.steady c.args.grid.samples z t) c.yes-yes.ensures) c.fill_until-in-WeakUntil.ensures)
 
 pub returns-in-Previous : goal.returns-in-Previous
 returns-in-Previous g c =
-    let left = λ (d : g.row.R-Truth.Denot). column g.Truth.Truth.means c.args.cells.now c.args.grid.width c.in-Previous.a d in
-    as_line g.Truth.Truth.kind (meant g.Truth.Truth.means (g.R.Recording.word c.args.recording.now)) c.args.grid.steady c.args.grid.samples
-    c.in-Previous.is (filled_as (λ d t _ _. ap (λ z. before g.Truth.Truth.kind z (left d) t) c.no-no.ensures) c.fill-previous.ensures)
+    let left = λ (d : g.row.R-Truth.Denot). column g.R.Truth.Truth.means c.args.cells.now c.args.grid.width c.in-Previous.a d in
+    as_line g.R.Truth.Truth.kind (meant g.R.Truth.Truth.means (g.R.Recording.word c.args.recording.now)) c.args.grid.steady c.args.grid.samples
+    c.in-Previous.is (filled_as (λ d t _ _. ap (λ z. before g.R.Truth.Truth.kind z (left d) t) c.no-no.ensures) c.fill_previous.ensures)
 
 pub returns-in-WeakPrevious : goal.returns-in-WeakPrevious
 returns-in-WeakPrevious g c =
-    let left = λ (d : g.row.R-Truth.Denot). column g.Truth.Truth.means c.args.cells.now c.args.grid.width c.in-WeakPrevious.a d in
-    as_line g.Truth.Truth.kind (meant g.Truth.Truth.means (g.R.Recording.word c.args.recording.now)) c.args.grid.steady c.args.grid.samples
-    c.in-WeakPrevious.is (filled_as (λ d t _ _. ap (λ z. before g.Truth.Truth.kind z (left d) t) c.yes-yes.ensures) c.fill-previous-in-WeakPrevious.ensures)
+    let left = λ (d : g.row.R-Truth.Denot). column g.R.Truth.Truth.means c.args.cells.now c.args.grid.width c.in-WeakPrevious.a d in
+    as_line g.R.Truth.Truth.kind (meant g.R.Truth.Truth.means (g.R.Recording.word c.args.recording.now)) c.args.grid.steady c.args.grid.samples
+    c.in-WeakPrevious.is (filled_as (λ d t _ _. ap (λ z. before g.R.Truth.Truth.kind z (left d) t) c.yes-yes.ensures) c.fill_previous-in-WeakPrevious.ensures)
 
 pub returns-in-Since : goal.returns-in-Since
 returns-in-Since g c =
-    let left = λ (d : g.row.R-Truth.Denot). column g.Truth.Truth.means c.args.cells.now c.args.grid.width c.in-Since.a d in
-    let right = λ (d : g.row.R-Truth.Denot). column g.Truth.Truth.means c.args.cells.now c.args.grid.width c.in-Since.b d in
-    as_line g.Truth.Truth.kind (meant g.Truth.Truth.means (g.R.Recording.word c.args.recording.now)) c.args.grid.steady c.args.grid.samples
-    c.in-Since.is (filled_as (λ d t _ _. ap (λ z. carried g.Truth.Truth.kind (left d) (right d) z (suc t)) c.no-no.ensures) c.fill-since.ensures)
+    let left = λ (d : g.row.R-Truth.Denot). column g.R.Truth.Truth.means c.args.cells.now c.args.grid.width c.in-Since.a d in
+    let right = λ (d : g.row.R-Truth.Denot). column g.R.Truth.Truth.means c.args.cells.now c.args.grid.width c.in-Since.b d in
+    as_line g.R.Truth.Truth.kind (meant g.R.Truth.Truth.means (g.R.Recording.word c.args.recording.now)) c.args.grid.steady c.args.grid.samples
+    c.in-Since.is (filled_as (λ d t _ _. ap (λ z. carried g.R.Truth.Truth.kind (left d) (right d) z (suc t)) c.no-no.ensures) c.fill_since.ensures)
 
 pub returns-in-WeakSince : goal.returns-in-WeakSince
 returns-in-WeakSince g c =
-    let left = λ (d : g.row.R-Truth.Denot). column g.Truth.Truth.means c.args.cells.now c.args.grid.width c.in-WeakSince.a d in
-    let right = λ (d : g.row.R-Truth.Denot). column g.Truth.Truth.means c.args.cells.now c.args.grid.width c.in-WeakSince.b d in
-    as_line g.Truth.Truth.kind (meant g.Truth.Truth.means (g.R.Recording.word c.args.recording.now)) c.args.grid.steady c.args.grid.samples
-    c.in-WeakSince.is (filled_as (λ d t _ _. ap (λ z. carried g.Truth.Truth.kind (left d) (right d) z (suc t)) c.yes-yes.ensures) c.fill-since-in-WeakSince.ensures)
+    let left = λ (d : g.row.R-Truth.Denot). column g.R.Truth.Truth.means c.args.cells.now c.args.grid.width c.in-WeakSince.a d in
+    let right = λ (d : g.row.R-Truth.Denot). column g.R.Truth.Truth.means c.args.cells.now c.args.grid.width c.in-WeakSince.b d in
+    as_line g.R.Truth.Truth.kind (meant g.R.Truth.Truth.means (g.R.Recording.word c.args.recording.now)) c.args.grid.steady c.args.grid.samples
+    c.in-WeakSince.is (filled_as (λ d t _ _. ap (λ z. carried g.R.Truth.Truth.kind (left d) (right d) z (suc t)) c.yes-yes.ensures) c.fill_since-in-WeakSince.ensures)

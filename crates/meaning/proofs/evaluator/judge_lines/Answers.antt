@@ -10,33 +10,33 @@ use Rattle.meaning.proofs.Build.{exists}
 use Rattle.meaning.proofs.OneValue.{unique}
 use Rattle.meaning.proofs.Period.{period_below}
 use Rattle.meaning.proofs.Rows.{Columns, further_more}
-use Rattle.meaning.proofs.Deep.{Reach, Deep, Steady, Turn, turn_is, roomy, reach_more, reach_longer, reach_all, level_more, deep_more, steady_by, columns_at, columns_longer, further_longer}
+use Rattle.meaning.proofs.Deep.{Steady, turn_is, roomy, reach_more, reach_longer, reach_all, level_more, deep_more, steady_by, columns_at, columns_longer, further_longer}
 use Rattle.meaning.proofs.evaluator.judge_lines.Goals as goal
 
-pub overflow-add-depth : goal.overflow-add-depth
-overflow-add-depth g c =
+pub overflow_add-depth : goal.overflow_add-depth
+overflow_add-depth g c =
     let w = g.R.Recording.word c.args.recording.now in
-    let e = c.in-ok-extent.ensures in
-    let turn = turn_is g.Truth.Truth.kind g.Truth.Truth.means c.args.lines.now w c.requires.sheet e.has_signals c.requires.few c.loop-k.grid c.loop-k.depths c.loop-k.deepest c.loop-k.k c.loop-k-test.true c.loop-k.invariant.2 c.loop-k.invariant.3
-    (c.depth-under.result + c.looks-back.result) _ (λ i. c.depth-under.ensures i + c.looks-back.ensures i) refl in
+    let e = c.in_ok-extent.ensures in
+    let turn = turn_is g.R.Truth.Truth.kind g.R.Truth.Truth.means c.args.lines.now w c.requires.sheet e.has_signals c.requires.few c.loop-k.grid c.loop-k.depths c.loop-k.deepest c.loop-k.k c.loop-k-test.true c.loop-k.invariant.2 c.loop-k.invariant.3
+    (c.depth_under.result + c.looks_back.result) _ (λ i. c.depth_under.ensures i + c.looks_back.ensures i) refl in
     omega (arith, turn.small)
 
-pub overflow-mul-count : goal.overflow-mul-count
-overflow-mul-count g c =
+pub overflow_mul-count : goal.overflow_mul-count
+overflow_mul-count g c =
     let w = g.R.Recording.word c.args.recording.now in
-    let e = c.in-ok-extent.ensures in
-    let turn = turn_is g.Truth.Truth.kind g.Truth.Truth.means c.args.lines.now w c.requires.sheet e.has_signals c.requires.few c.loop-k.grid c.loop-k.depths c.loop-k.deepest c.loop-k.k c.loop-k-test.true c.loop-k.invariant.2 c.loop-k.invariant.3
-    (c.depth-under.result + c.looks-back.result) c.saturating-sub-deeper.result (λ i. c.depth-under.ensures i + c.looks-back.ensures i) c.saturating-sub-deeper.ensures in
-    omega (arith, turn.turn, ap (λ m. c.saturating-sub-deeper.result * m) c.cycle-cycle.ensures, w.sizes.4)
+    let e = c.in_ok-extent.ensures in
+    let turn = turn_is g.R.Truth.Truth.kind g.R.Truth.Truth.means c.args.lines.now w c.requires.sheet e.has_signals c.requires.few c.loop-k.grid c.loop-k.depths c.loop-k.deepest c.loop-k.k c.loop-k-test.true c.loop-k.invariant.2 c.loop-k.invariant.3
+    (c.depth_under.result + c.looks_back.result) c.saturating_sub-deeper.result (λ i. c.depth_under.ensures i + c.looks_back.ensures i) c.saturating_sub-deeper.ensures in
+    omega (arith, turn.turn, ap (λ m. c.saturating_sub-deeper.result * m) c.cycle-cycle.ensures, w.sizes.4)
 
 pub repeat-requires : goal.repeat-requires
 repeat-requires g c =
     let w = g.R.Recording.word c.args.recording.now in
-    let e = c.in-ok-extent.ensures in
+    let e = c.in_ok-extent.ensures in
     let reach = c.loop-k.invariant.2 in
-    let turn = turn_is g.Truth.Truth.kind g.Truth.Truth.means c.args.lines.now w c.requires.sheet e.has_signals c.requires.few c.loop-k.grid c.loop-k.depths c.loop-k.deepest c.loop-k.k c.loop-k-test.true reach c.loop-k.invariant.3
-    (c.depth-under.result + c.looks-back.result) c.saturating-sub-deeper.result (λ i. c.depth-under.ensures i + c.looks-back.ensures i) c.saturating-sub-deeper.ensures in
-    let ec = ap (λ m. c.saturating-sub-deeper.result * m) c.cycle-cycle.ensures in
+    let turn = turn_is g.R.Truth.Truth.kind g.R.Truth.Truth.means c.args.lines.now w c.requires.sheet e.has_signals c.requires.few c.loop-k.grid c.loop-k.depths c.loop-k.deepest c.loop-k.k c.loop-k-test.true reach c.loop-k.invariant.3
+    (c.depth_under.result + c.looks_back.result) c.saturating_sub-deeper.result (λ i. c.depth_under.ensures i + c.looks_back.ensures i) c.saturating_sub-deeper.ensures in
+    let ec = ap (λ m. c.saturating_sub-deeper.result * m) c.cycle-cycle.ensures in
     record {
       room = roomy c.loop-k.cells _ reach (omega (arith, e.room, c.loop-k.auto.cells)) (omega (arith, turn.within, ec));
       few = omega (arith, reach.width, c.loop-k-test.true);
@@ -47,30 +47,30 @@ repeat-requires g c =
 pub longer-grid-requires : goal.longer-grid-requires
 longer-grid-requires g c =
     let w = g.R.Recording.word c.args.recording.now in
-    let e = c.in-ok-extent.ensures in
+    let e = c.in_ok-extent.ensures in
     let reach = c.loop-k.invariant.2 in
-    let turn = turn_is g.Truth.Truth.kind g.Truth.Truth.means c.args.lines.now w c.requires.sheet e.has_signals c.requires.few c.loop-k.grid c.loop-k.depths c.loop-k.deepest c.loop-k.k c.loop-k-test.true reach c.loop-k.invariant.3
-    (c.depth-under.result + c.looks-back.result) c.saturating-sub-deeper.result (λ i. c.depth-under.ensures i + c.looks-back.ensures i) c.saturating-sub-deeper.ensures in
-    let ec = ap (λ m. c.saturating-sub-deeper.result * m) c.cycle-cycle.ensures in
+    let turn = turn_is g.R.Truth.Truth.kind g.R.Truth.Truth.means c.args.lines.now w c.requires.sheet e.has_signals c.requires.few c.loop-k.grid c.loop-k.depths c.loop-k.deepest c.loop-k.k c.loop-k-test.true reach c.loop-k.invariant.3
+    (c.depth_under.result + c.looks_back.result) c.saturating_sub-deeper.result (λ i. c.depth_under.ensures i + c.looks_back.ensures i) c.saturating_sub-deeper.ensures in
+    let ec = ap (λ m. c.saturating_sub-deeper.result * m) c.cycle-cycle.ensures in
     (omega (arith, turn.within, ec, e.few, e.samples), omega (arith, turn.within, ec, e.few, e.samples, reach.samples))
 
-pub overflow-add-deepest : goal.overflow-add-deepest
-overflow-add-deepest g c =
+pub overflow_add-deepest : goal.overflow_add-deepest
+overflow_add-deepest g c =
     let w = g.R.Recording.word c.args.recording.now in
-    let e = c.in-ok-extent.ensures in
-    let turn = turn_is g.Truth.Truth.kind g.Truth.Truth.means c.args.lines.now w c.requires.sheet e.has_signals c.requires.few c.loop-k.grid c.loop-k.depths c.loop-k.deepest c.loop-k.k c.loop-k-test.true c.loop-k.invariant.2 c.loop-k.invariant.3
-    (c.depth-under.result + c.looks-back.result) c.saturating-sub-deeper.result (λ i. c.depth-under.ensures i + c.looks-back.ensures i) c.saturating-sub-deeper.ensures in
+    let e = c.in_ok-extent.ensures in
+    let turn = turn_is g.R.Truth.Truth.kind g.R.Truth.Truth.means c.args.lines.now w c.requires.sheet e.has_signals c.requires.few c.loop-k.grid c.loop-k.depths c.loop-k.deepest c.loop-k.k c.loop-k-test.true c.loop-k.invariant.2 c.loop-k.invariant.3
+    (c.depth_under.result + c.looks_back.result) c.saturating_sub-deeper.result (λ i. c.depth_under.ensures i + c.looks_back.ensures i) c.saturating_sub-deeper.ensures in
     omega (arith, turn.few)
 
-pub fill-line-requires : goal.fill-line-requires
-fill-line-requires g c =
+pub fill_line-requires : goal.fill_line-requires
+fill_line-requires g c =
     let w = g.R.Recording.word c.args.recording.now in
-    let e = c.in-ok-extent.ensures in
+    let e = c.in_ok-extent.ensures in
     let reach = c.loop-k.invariant.2 in
-    let turn = turn_is g.Truth.Truth.kind g.Truth.Truth.means c.args.lines.now w c.requires.sheet e.has_signals c.requires.few c.loop-k.grid c.loop-k.depths c.loop-k.deepest c.loop-k.k c.loop-k-test.true reach c.loop-k.invariant.3
-    (c.depth-under.result + c.looks-back.result) c.saturating-sub-deeper.result (λ i. c.depth-under.ensures i + c.looks-back.ensures i) c.saturating-sub-deeper.ensures in
-    let ec = ap (λ m. c.saturating-sub-deeper.result * m) c.cycle-cycle.ensures in
-    let longer = reach_longer c.saturating-sub-deeper.result _ reach ec c.longer-grid.ensures in
+    let turn = turn_is g.R.Truth.Truth.kind g.R.Truth.Truth.means c.args.lines.now w c.requires.sheet e.has_signals c.requires.few c.loop-k.grid c.loop-k.depths c.loop-k.deepest c.loop-k.k c.loop-k-test.true reach c.loop-k.invariant.3
+    (c.depth_under.result + c.looks_back.result) c.saturating_sub-deeper.result (λ i. c.depth_under.ensures i + c.looks_back.ensures i) c.saturating_sub-deeper.ensures in
+    let ec = ap (λ m. c.saturating_sub-deeper.result * m) c.cycle-cycle.ensures in
+    let longer = reach_longer c.saturating_sub-deeper.result _ reach ec c.longer-grid.ensures in
     let inside : c.longer-grid.result.samples ≤ horizon c.args.lines.now w = omega (arith, turn.within, ec, c.longer-grid.ensures) in
     record {
       room = roomy c.repeat.new.cells _ longer (omega (arith, e.room, c.loop-k.auto.cells, c.repeat.auto.cells)) inside;
@@ -83,21 +83,21 @@ fill-line-requires g c =
 
 pub loop-k-preserved : goal.loop-k-preserved
 loop-k-preserved g c =
-    let K = g.Truth.Truth.kind in
-    let means = g.Truth.Truth.means in
+    let K = g.R.Truth.Truth.kind in
+    let means = g.R.Truth.Truth.means in
     let lines = c.args.lines.now in
     let w = g.R.Recording.word c.args.recording.now in
-    let e = c.in-ok-extent.ensures in
+    let e = c.in_ok-extent.ensures in
     let k = c.loop-k.k in
     let reach = c.loop-k.invariant.2 in
-    let more = c.saturating-sub-deeper.result in
-    let ed : c.depth-under.result + c.looks-back.result ≡ _ = λ i. c.depth-under.ensures i + c.looks-back.ensures i in
+    let more = c.saturating_sub-deeper.result in
+    let ed : c.depth_under.result + c.looks_back.result ≡ _ = λ i. c.depth_under.ensures i + c.looks_back.ensures i in
     let turn = turn_is K means lines w c.requires.sheet e.has_signals c.requires.few c.loop-k.grid c.loop-k.depths c.loop-k.deepest k c.loop-k-test.true reach c.loop-k.invariant.3
-    (c.depth-under.result + c.looks-back.result) more ed c.saturating-sub-deeper.ensures in
+    (c.depth_under.result + c.looks_back.result) more ed c.saturating_sub-deeper.ensures in
     let ec = ap (λ m. more * m) c.cycle-cycle.ensures in
     let longer = reach_longer more _ reach ec c.longer-grid.ensures in
     let deeps = deep_more K means lines w c.requires.sheet e.has_signals c.loop-k.depths c.loop-k.deepest k c.loop-k-test.true (omega (arith, c.requires.few, c.loop-k-test.true)) c.loop-k.invariant.3
-    (c.depth-under.result + c.looks-back.result) more (set c.loop-k.depths k (c.depth-under.result + c.looks-back.result)) ed c.saturating-sub-deeper.ensures refl in
+    (c.depth_under.result + c.looks_back.result) more (set c.loop-k.depths k (c.depth_under.result + c.looks_back.result)) ed c.saturating_sub-deeper.ensures refl in
     let copied : Repeated (length lines) k w.cycle c.loop-k.grid.samples (c.loop-k.grid.samples + more * c.cycle-cycle.result) c.loop-k.cells c.repeat.new.cells =
     transport (λ i. Repeated (reach.width i) k (c.cycle-cycle.ensures i) c.loop-k.grid.samples (c.loop-k.grid.samples + more * c.cycle-cycle.result) c.loop-k.cells c.repeat.new.cells) c.repeat.ensures in
     let cols : Columns K means lines w c.longer-grid.result.samples k c.repeat.new.cells =
@@ -106,13 +106,13 @@ loop-k-preserved g c =
     (omega (arith, c.loop-k-test.true)) (omega (arith, reach.samples)) (omega (arith, turn.turn, ec))
     (steady_by K means lines w c.loop-k.depths c.loop-k.deepest k _ c.loop-k.invariant.3 (omega (arith, reach.samples, reach.steady)))
     copied c.loop-k.invariant.0) in
-    let fills : Fills means (length lines) k c.repeat.new.cells (λ d t. written K (meant means w) c.longer-grid.result.steady c.longer-grid.result.samples (line lines k) (λ a. column means c.repeat.new.cells (length lines) a d) t) 0 c.longer-grid.result.samples c.fill-line.new.cells =
-    subst (λ m. Fills means m k c.repeat.new.cells (λ d t. written K (meant means w) c.longer-grid.result.steady c.longer-grid.result.samples (line lines k) (λ a. column means c.repeat.new.cells m a d) t) 0 c.longer-grid.result.samples c.fill-line.new.cells) longer.width c.fill-line.ensures in
-    let inside : c.longer-grid.result.samples ≤ c.in-ok-extent.extent.samples = omega (arith, turn.within, ec, c.longer-grid.ensures, e.samples) in (
+    let fills : Fills means (length lines) k c.repeat.new.cells (λ d t. written K (meant means w) c.longer-grid.result.steady c.longer-grid.result.samples (line lines k) (λ a. column means c.repeat.new.cells (length lines) a d) t) 0 c.longer-grid.result.samples c.fill_line.new.cells =
+    subst (λ m. Fills means m k c.repeat.new.cells (λ d t. written K (meant means w) c.longer-grid.result.steady c.longer-grid.result.samples (line lines k) (λ a. column means c.repeat.new.cells m a d) t) 0 c.longer-grid.result.samples c.fill_line.new.cells) longer.width c.fill_line.ensures in
+    let inside : c.longer-grid.result.samples ≤ c.in_ok-extent.extent.samples = omega (arith, turn.within, ec, c.longer-grid.ensures, e.samples) in (
       columns_at K means lines w c.requires.sheet e.has_signals c.longer-grid.result.steady c.longer-grid.result.samples k longer.samples c.loop-k-test.true
-          (steady_by K means lines w _ _ (k + 1) _ deeps longer.steady) c.repeat.new.cells c.fill-line.new.cells fills cols,
+          (steady_by K means lines w _ _ (k + 1) _ deeps longer.steady) c.repeat.new.cells c.fill_line.new.cells fills cols,
       λ i h d.
-          further_more c.loop-k-test.true fills i (omega (arith, mul-le (length lines) c.longer-grid.result.samples (length lines) c.in-ok-extent.extent.samples (omega arith) inside)) d
+          further_more c.loop-k-test.true fills i (omega (arith, mul-le (length lines) c.longer-grid.result.samples (length lines) c.in_ok-extent.extent.samples (omega arith) inside)) d
           ∙ further_longer (omega (arith, c.loop-k-test.true)) (omega (arith, inside, c.longer-grid.ensures)) copied i h d
           ∙ c.loop-k.invariant.1 i h d,
       longer,
@@ -121,8 +121,8 @@ loop-k-preserved g c =
 
 pub loop-grid-init : goal.loop-grid-init
 loop-grid-init g c =
-    let K = g.Truth.Truth.kind in
-    let means = g.Truth.Truth.means in
+    let K = g.R.Truth.Truth.kind in
+    let means = g.R.Truth.Truth.means in
     let lines = c.args.lines.now in
     let w = g.R.Recording.word c.args.recording.now in
     let ek : c.loop-k.k ≡ length lines = omega (arith, c.loop-k-test.false, c.loop-k.auto.k-end) in (
@@ -135,7 +135,7 @@ loop-grid-init g c =
 pub repeat-requires-in-loop-grid : goal.repeat-requires-in-loop-grid
 repeat-requires-in-loop-grid g c =
     let w = g.R.Recording.word c.args.recording.now in
-    let e = c.in-ok-extent.ensures in
+    let e = c.in_ok-extent.ensures in
     let reach = c.loop-grid.invariant.3.1 in
     let within = reach_more 1 reach (level_more reach (omega (arith, c.loop-grid-test.true, e.steady_is))) in
     record {
@@ -147,11 +147,11 @@ repeat-requires-in-loop-grid g c =
 
 pub loop-grid-preserved : goal.loop-grid-preserved
 loop-grid-preserved g c =
-    let K = g.Truth.Truth.kind in
-    let means = g.Truth.Truth.means in
+    let K = g.R.Truth.Truth.kind in
+    let means = g.R.Truth.Truth.means in
     let lines = c.args.lines.now in
     let w = g.R.Recording.word c.args.recording.now in
-    let e = c.in-ok-extent.ensures in
+    let e = c.in_ok-extent.ensures in
     let n = c.loop-grid.invariant.3.0 in
     let reach = c.loop-grid.invariant.3.1 in
     let level = level_more reach (omega (arith, c.loop-grid-test.true, e.steady_is)) in
@@ -171,18 +171,18 @@ loop-grid-preserved g c =
 pub read-requires : goal.read-requires
 read-requires g c =
     let w = g.R.Recording.word c.args.recording.now in
-    let e = c.in-ok-extent.ensures in
+    let e = c.in_ok-extent.ensures in
     let reach = c.loop-grid.invariant.3.1 in
     roomy c.loop-grid.cells 1 reach (omega (arith, e.room, c.loop-k.auto.cells, c.loop-grid.auto.cells)) (omega (arith, w.sizes.3)) 0 (c.loop-grid.grid.width - 1) (omega arith)
     (omega (arith, reach.width, c.requires.some))
 
 pub returns : goal.returns
 returns g c =
-    let K = g.Truth.Truth.kind in
-    let means = g.Truth.Truth.means in
+    let K = g.R.Truth.Truth.kind in
+    let means = g.R.Truth.Truth.means in
     let lines = c.args.lines.now in
     let w = g.R.Recording.word c.args.recording.now in
-    let e = c.in-ok-extent.ensures in
+    let e = c.in_ok-extent.ensures in
     let made = exists K (meant means w) lines c.requires.sheet e.has_signals in
     let reach = c.loop-grid.invariant.3.1 in
     let all : c.loop-grid.grid.samples ≡ horizon lines w = reach_all reach c.loop-grid.invariant.3.2 (omega (arith, c.loop-grid-test.false, e.steady_is)) in
@@ -197,7 +197,7 @@ returns g c =
       again = λ k hk. period_below K (meant means w) (line lines) (length lines) c.requires.sheet e.has_signals made.0 made.1 (length lines) (omega arith) k hk;
       cells = cells;
       further = λ i h d.
-          let far : length lines * c.in-ok-extent.extent.samples ≤ i = subst (λ m. length lines * m ≤ i) (sym e.samples) h in
+          let far : length lines * c.in_ok-extent.extent.samples ≤ i = subst (λ m. length lines * m ≤ i) (sym e.samples) h in
           c.loop-grid.invariant.1 i far d ∙ c.loop-k.invariant.1 i far d;
       as_long = omega (arith, c.loop-k.auto.cells, c.loop-grid.auto.cells);
       verdict =

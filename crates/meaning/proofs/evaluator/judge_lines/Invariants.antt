@@ -7,17 +7,17 @@ use Rattle.meaning.proofs.evaluator.judge_lines.Given as goal
 abbrev pub invariant-loop-k : goal.invariant-loop-k
 invariant-loop-k g l =
     let w = g.R.Recording.word l.recording in
-    Columns g.Truth.Truth.kind g.Truth.Truth.means l.lines w l.grid.samples l.k l.cells
+    Columns g.R.Truth.Truth.kind g.R.Truth.Truth.means l.lines w l.grid.samples l.k l.cells
     × ((i : ℕ) → length l.lines * l.extent.samples ≤ i → (d : g.row.R-Truth.Denot) → get_or l.cells i d ≡ get_or l.initial.cells i d)
     × Reach l.lines w l.grid l.deepest
-    × Deep g.Truth.Truth.kind g.Truth.Truth.means l.lines w l.depths l.deepest l.k
+    × Deep g.R.Truth.Truth.kind g.R.Truth.Truth.means l.lines w l.depths l.deepest l.k
 
 abbrev pub invariant-loop-grid : goal.invariant-loop-grid
 invariant-loop-grid g l =
     let w = g.R.Recording.word l.recording in
-    Columns g.Truth.Truth.kind g.Truth.Truth.means l.lines w l.grid.samples (length l.lines) l.cells
+    Columns g.R.Truth.Truth.kind g.R.Truth.Truth.means l.lines w l.grid.samples (length l.lines) l.cells
     × ((i : ℕ) → length l.lines * l.extent.samples ≤ i → (d : g.row.R-Truth.Denot) → get_or l.cells i d ≡ get_or l.initial.cells i d)
-    × Steady g.Truth.Truth.kind g.Truth.Truth.means l.lines w l.grid.steady (length l.lines)
+    × Steady g.R.Truth.Truth.kind g.R.Truth.Truth.means l.lines w l.grid.steady (length l.lines)
     × ((n : ℕ) × Reach l.lines w l.grid n × (n ≤ pasts (line l.lines) (length l.lines)))
 
 abbrev pub decreases-loop-grid : goal.decreases-loop-grid

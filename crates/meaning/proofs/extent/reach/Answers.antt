@@ -1,4 +1,4 @@
-use Rattle.std.proofs.Common.{◌≡◌, ℕ, suc, ◌+◌, ◌-◌, ◌*◌, ◌<◌, ◌≤◌, length, subst, ap₂, arith}
+use Rattle.std.proofs.Common.{◌≡◌, suc, ◌+◌, ◌-◌, ◌*◌, ◌≤◌, length, subst, ap₂, arith}
 use Rattle.sheet.specs.Table.{line, pasts}
 use Rattle.meaning.specs.Verdict.{steady}
 use Rattle.meaning.proofs.Rows.{few_samples, pasts_below}
@@ -11,9 +11,9 @@ returns g c =
     let one : suc (length lines - 1) ≡ length lines = omega (arith, c.requires.some) in
     let most : pasts (line lines) (length lines) ≤ length lines - 1 =
     subst (λ n. pasts (line lines) n ≤ length lines - 1) one (pasts_below (line lines) (c.requires.sheet 0 c.requires.some) (length lines - 1)) in
-    let few_back : c.count-back.result ≤ 63 = omega (arith, most, c.count-back.ensures.is, c.requires.few) in
-    let es : c.stem.result + c.count-back.result * c.cycle-cycle.result ≡ steady lines w =
-    ap₂ ◌+◌ c.stem.ensures (ap₂ ◌*◌ c.count-back.ensures.is c.cycle-cycle.ensures) in
+    let few_back : c.count_back.result ≤ 63 = omega (arith, most, c.count_back.ensures.is, c.requires.few) in
+    let es : c.stem.result + c.count_back.result * c.cycle-cycle.result ≡ steady lines w =
+    ap₂ ◌+◌ c.stem.ensures (ap₂ ◌*◌ c.count_back.ensures.is c.cycle-cycle.ensures) in
     record {
       samples = ap₂ ◌+◌ es c.cycle-cycle.ensures;
       steady = es;

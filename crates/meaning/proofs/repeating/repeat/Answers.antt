@@ -5,8 +5,8 @@ use Rattle.meaning.proofs.repeating.repeat.Goals as goal
 pub loop-t-init : goal.loop-t-init
 loop-t-init g c = no_samples
 
-pub repeat-sample-requires : goal.repeat-sample-requires
-repeat-sample-requires g c =
+pub repeat_sample-requires : goal.repeat_sample-requires
+repeat_sample-requires g c =
     record {
       room = λ t k ht hk. omega (arith, c.requires.room t k (omega arith) hk);
       few = c.requires.few;
@@ -15,7 +15,7 @@ repeat-sample-requires g c =
 
 pub loop-t-preserved : goal.loop-t-preserved
 loop-t-preserved g c =
-    sample_more c.requires.few (omega arith) (omega arith) (omega arith) (omega arith) c.loop-t.invariant c.repeat-sample.ensures
+    sample_more c.requires.few (omega arith) (omega arith) (omega arith) (omega arith) c.loop-t.invariant c.repeat_sample.ensures
 
 pub returns : goal.returns
 returns g c = repeated_all (omega arith) (omega arith) c.loop-t.invariant

@@ -3,5 +3,5 @@ use Rattle.lexer.specs.Names.{line_of}
 use Rattle.lexer.proofs.Naming.{few}
 use Rattle.lexer.proofs.names.Names.count.Goals as goal
 
-pub overflow-add-count : goal.overflow-add-count
-overflow-add-count c = omega (arith, few (line_of c.args.self.now), c.in-Some.ensures.0)
+pub overflow_add-count : goal.overflow_add-count
+overflow_add-count c = omega (arith, few (line_of c.args.self.now), c.in-Some.ensures.0)

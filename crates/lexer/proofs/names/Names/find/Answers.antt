@@ -10,8 +10,8 @@ returns-then-eq c =
     let o = c.in-Some.ensures in
     (o.0, sym o.1 ∙ (slice_eq-Decides Decides-eqb _ _ _ c.eq.ensures).0 c.if-eq.true, c.loop-other.invariant.1)
 
-pub overflow-add-number : goal.overflow-add-number
-overflow-add-number c = omega (arith, few (line_of c.args.self.now), c.in-Some.ensures.0)
+pub overflow_add-number : goal.overflow_add-number
+overflow_add-number c = omega (arith, few (line_of c.args.self.now), c.in-Some.ensures.0)
 
 pub loop-other-preserved : goal.loop-other-preserved
 loop-other-preserved c =

@@ -7,4 +7,4 @@ pub returns-then-number-ge32 : goal.returns-then-number-ge32
 returns-then-number-ge32 c = omega (arith, few (line_of c.args.self.now))
 
 pub returns : goal.returns
-returns c = nth_name (line_of c.args.self.now) c.args.number c.nth-part.result c.if-number-ge32.false c.nth-part.ensures
+returns c = nth_name (line_of c.args.self.now) c.args.number c.nth_part.result c.if-number-ge32.false c.nth_part.ensures

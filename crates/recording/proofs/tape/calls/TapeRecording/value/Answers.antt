@@ -7,5 +7,5 @@ pub returns : goal.returns
 returns c =
     let t = c.args.self.now in (
       omega arith,
-      c.has-bit.ensures ∙ ap (λ m. bit m c.args.signal) (read_front t.masks (t.stem + t.cycle) _ _ c.mask-number-t.ensures.is c.mask-number-t.ensures.below),
+      c.has_bit.ensures ∙ ap (λ m. bit m c.args.signal) (read_front t.masks (t.stem + t.cycle) _ _ c.mask_number-t.ensures.is c.mask_number-t.ensures.below),
     )
