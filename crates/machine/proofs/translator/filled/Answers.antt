@@ -6,5 +6,5 @@ use Rattle.machine.proofs.translator.filled.Goals as goal
 
 pub loop-k-preserved : goal.loop-k-preserved
 loop-k-preserved c =
-    let e = c.put-line.ensures in
-    built_more c.args.lines.now c.loop-k.k c.loop-k.work c.put-line.new.self (get_or c.signs-of-signs.result c.loop-k.k unsigned) c.requires.0 (omega arith) (omega (arith, c.requires)) c.loop-k.invariant (fun_ext (c.signs-of-signs.ensures c.loop-k.k)) e.after e.gates e.variables e.pairs e.places
+    let e = c.put_line.ensures in
+    built_more c.args.lines.now c.loop-k.k c.loop-k.work c.put_line.new.self (get_or c.signs_of-signs.result c.loop-k.k unsigned) c.requires.0 (omega arith) (omega (arith, c.requires)) c.loop-k.invariant (fun_ext (c.signs_of-signs.ensures c.loop-k.k)) e.after e.gates e.variables e.pairs e.places

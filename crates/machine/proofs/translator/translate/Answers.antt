@@ -4,24 +4,20 @@ use Rattle.machine.proofs.Finishing.{held_is, gates_fit, variables_fit, pairs_fi
 use Rattle.machine.proofs.Wiring.{sound as sound_of}
 use Rattle.machine.proofs.translator.translate.Goals as goal
 
-pub invariant-of-machine : goal.invariant-of-machine
-invariant-of-machine c =
+pub invariant_of-machine : goal.invariant_of-machine
+invariant_of-machine c =
     let w = c.filled-work.result in
     let ls = c.lines-lines.result.now in
     let l = c.lines-lines.ensures in
-    let built = c.filled-work.ensures in (
-      w.sized,
-      (
-        w.within,
-        (
-          gates_fit ls w l.sheet l.some l.few built,
-          (
-            variables_fit ls w l.sheet l.some l.few built,
-            (pairs_fit ls w l.sheet l.some l.few built, (root_fits ls w l.sheet l.some l.few built, tt)),
-          ),
-        ),
-      ),
-    )
+    let built = c.filled-work.ensures in
+    record {
+      sized = w.sized;
+      within = w.within;
+      gates_fit = gates_fit ls w l.sheet l.some l.few built;
+      variables_fit = variables_fit ls w l.sheet l.some l.few built;
+      pairs_fit = pairs_fit ls w l.sheet l.some l.few built;
+      root_fits = root_fits ls w l.sheet l.some l.few built;
+    }
 
 pub returns : goal.returns
 returns c =

@@ -14,4 +14,4 @@ loop-k-init c a s =
 pub loop-k-preserved : goal.loop-k-preserved
 loop-k-preserved c =
     let ls = c.args.lines.now in
-    pass_turn (line ls) (rule_of ls) (length ls) c.loop-k.k c.loop-k.signs c.hand-on.new.signs (omega arith) (omega arith) c.loop-k.invariant c.hand-on.ensures
+    pass_turn (line ls) (rule_of ls) (length ls) c.loop-k.k c.loop-k.signs c.hand_on.new.signs (omega arith) (omega arith) c.loop-k.invariant c.hand_on.ensures
