@@ -7,6 +7,6 @@ use Rattle.foreign.proofs.once.judge_once.Goals as goal
 pub returns-in-Ok-judge : goal.returns-in-Ok-judge
 returns-in-Ok-judge g c =
     subst
-    (λ ls. Filled g.row.R-Truth-Truth.kind g.row.R-Truth-Truth.means ls (g.R.Recording.word c.args.recording.now) (rule_of ls) 0 c.args.cells.now c.judge.new.cells c.in-Ok-judge.answer)
+    (λ ls. Filled g.R.Truth.Truth.kind g.R.Truth.Truth.means ls (g.R.Recording.word c.args.recording.now) (rule_of ls) 0 c.args.cells.now c.judge.new.cells c.in-Ok-judge.answer)
     (same_lines c.args.draft c.in-Ok.sealed c.in-Ok.ensures)
     c.in-Ok-judge.ensures
