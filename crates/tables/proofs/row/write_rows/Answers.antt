@@ -10,8 +10,8 @@ loop-number-preserved g c =
       iv.0 ++ (row ++ (10 ∷ [])),
       (λ p.
           let one = iv.1 p in
-          let two = c.write-row.ensures one.plain (ap is_ok c.in-ok-write-row.was) in
-          let three = c.writeln.ensures.writes two.plain (ap is_ok c.in-ok-writeln.was) in
+          let two = c.write_row.ensures one.plain (ap is_ok c.in_ok-write_row.was) in
+          let three = c.writeln.ensures.writes two.plain (ap is_ok c.in_ok-writeln.was) in
           has_written_append _ _ _ _ _ _ one (has_written_append _ _ _ _ _ _ two three)),
       rows_more g.T.Row.text c.args.rows.now c.loop-number.number c.index-rows-number.result iv.0 _ (omega arith) (sym c.index-rows-number.is) iv.2,
     )

@@ -4,5 +4,5 @@ use Rattle.tables.proofs.row.write_table.Goals as goal
 
 pub returns : goal.returns
 returns g c p e =
-    let one = c.writeln.ensures.writes p (ap is_ok c.in-ok-writeln.was) in
-    has_written_of_eq _ _ _ _ _ (append_assoc c.args.heading.now (10 ∷ []) _) (has_written_append _ _ _ _ _ _ one (c.write-rows.ensures one.plain e))
+    let one = c.writeln.ensures.writes p (ap is_ok c.in_ok-writeln.was) in
+    has_written_of_eq _ _ _ _ _ (append_assoc c.args.heading.now (10 ∷ []) _) (has_written_append _ _ _ _ _ _ one (c.write_rows.ensures one.plain e))

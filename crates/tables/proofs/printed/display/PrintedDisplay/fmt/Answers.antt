@@ -5,9 +5,9 @@ use Rattle.tables.proofs.printed.display.PrintedDisplay.fmt.Goals as goal
 
 pub returns-clause-writes : goal.returns-clause-writes
 returns-clause-writes g c p e =
-    let one = c.write-table.ensures p (ap is_ok c.in-ok-write-table.was) in
-    let two = c.write-table-2.ensures one.plain (ap is_ok c.in-ok-write-table-2.was) in
-    let three = c.write-table-3.ensures two.plain (ap is_ok c.in-ok-write-table-3.was) in
+    let one = c.write_table.ensures p (ap is_ok c.in_ok-write_table.was) in
+    let two = c.write_table-2.ensures one.plain (ap is_ok c.in_ok-write_table-2.was) in
+    let three = c.write_table-3.ensures two.plain (ap is_ok c.in_ok-write_table-3.was) in
     let four = c.writeln.ensures.writes three.plain e in
     has_written_of_eq _ _ _ _ _
     (λ i. table_text (codes "gate kind a b") gate_text (c.gates.ensures.are i)
