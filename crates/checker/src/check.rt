@@ -17,7 +17,7 @@ use recording::truth::{Truth, TwoValued};
 
 // Asks the recording for the signal that a gate names; where it has none, that is the refusal.
 fn ask<R: Recording>(gate: Gate, recording: &R) -> Result<(), CheckRefusal>
-    ensures { MatchResult result (λ _. Names (word recording.now).signals gate) (λ e. (e ≡ NoSignal) × (Names (word recording.now).signals gate → ⊥)) }
+    ensures { MatchResult result (λ _. Names (R.word recording.now).signals gate) (λ e. (e ≡ NoSignal) × (Names (R.word recording.now).signals gate → ⊥)) }
 {
     match gate {
         Gate::Signal(signal) => match recording.value(signal as u32, 0) {
@@ -30,7 +30,7 @@ fn ask<R: Recording>(gate: Gate, recording: &R) -> Result<(), CheckRefusal>
 
 // Asks for the signals of all gates.
 fn ask_all<R: Recording>(gates: &[Gate], recording: &R) -> Result<(), CheckRefusal>
-    ensures { MatchResult result (λ _. HasGateSignals gates.now (word recording.now).signals) (λ e. (e ≡ NoSignal) × (HasGateSignals gates.now (word recording.now).signals → ⊥)) }
+    ensures { MatchResult result (λ _. HasGateSignals gates.now (R.word recording.now).signals) (λ e. (e ≡ NoSignal) × (HasGateSignals gates.now (R.word recording.now).signals → ⊥)) }
 {
     for k in 0..gates.len() {
         ask(gates[k], recording)?;
@@ -40,7 +40,7 @@ fn ask_all<R: Recording>(gates: &[Gate], recording: &R) -> Result<(), CheckRefus
 
 // Whether n rows with row back after the last may be a run on the recording.
 fn has_shape<R: Recording>(recording: &R, n: usize, back: usize) -> bool
-    ensures { Decides result (Shape (word recording.now) n back) }
+    ensures { Decides result (Shape (R.word recording.now) n back) }
 {
     if n == 0 || n > 4352 || back >= n || back < recording.stem() as usize {
         return false;

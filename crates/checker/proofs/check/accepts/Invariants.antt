@@ -5,4 +5,4 @@ use Rattle.checker.proofs.check.accepts.Given as goal
 
 abbrev pub invariant-loop-i : goal.invariant-loop-i
 invariant-loop-i g l =
-    Walked g.Truth.Truth.kind (tables l.machine) (meant g.Truth.Truth.means (g.R.Recording.word l.recording)) l.rows l.back l.i l.here l.met
+    Walked g.R.Truth.Truth.kind (tables l.machine) (meant g.R.Truth.Truth.means (g.R.Recording.word l.recording)) l.rows l.back l.i l.here l.met

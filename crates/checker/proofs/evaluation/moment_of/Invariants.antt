@@ -9,5 +9,5 @@ abbrev pub invariant-loop-k : goal.invariant-loop-k
 invariant-loop-k g l =
     (length l.values ≡ 192)
     × ((j : ℕ) → j < l.k
-    → Reads g.Truth.Truth.kind (meant g.Truth.Truth.means (g.R.Recording.word l.recording)) (row_bits l.rows) (listed l.values)
+    → Reads g.R.Truth.Truth.kind (meant g.R.Truth.Truth.means (g.R.Recording.word l.recording)) (row_bits l.rows) (listed l.values)
     (gate_at l.gates j) l.i (get_or l.values j false))
