@@ -120,7 +120,7 @@ pub(crate) fn on_sealed<R: Recording, B: Recording>(
 where
     B::Truth: TwoValued,
     ensures ledger { ledger_of result.sheet ≡ next_ledger (shut sealed) call }
-    ensures tells { Tells (heard Truth-as-Truth-1.kind Truth-as-Truth-1.means R.Recording.word judged.now) (heard Truth-as-Truth-2.kind Truth-as-Truth-2.means B.Recording.word written.now) Shut (shut sealed) call result.answer (lent (tables machine.old) cells.old bits.old rows.old) (lent (tables machine.new) cells.new bits.new rows.new) }
+    ensures tells { Tells (heard R.Truth.Truth.kind R.Truth.Truth.means R.Recording.word judged.now) (heard B.Truth.Truth.kind B.Truth.Truth.means B.Recording.word written.now) Shut (shut sealed) call result.answer (lent (tables machine.old) cells.old bits.old rows.old) (lent (tables machine.new) cells.new bits.new rows.new) }
 {
     match call {
         Call::Reopen => Stepped {

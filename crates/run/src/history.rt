@@ -42,8 +42,8 @@ pub fn carry_out<R: Recording, B: Recording>(
 where
     B::Truth: TwoValued,
     ensures ledger { ledger_of result ≡ after (ledger_of sheet) (take (length answers.old) calls.now) }
-    ensures story { Story (heard Truth-as-Truth-1.kind Truth-as-Truth-1.means R.Recording.word judged.now) (heard Truth-as-Truth-2.kind Truth-as-Truth-2.means B.Recording.word written.now) (ledger_of sheet) (lent (tables machine.old) cells.old bits.old rows.old) (take (length answers.old) calls.now) (take (length calls.now) answers.new) (lent (tables machine.new) cells.new bits.new rows.new) }
-    ensures law { Throughout Truth-as-Truth-1.kind Truth-as-Truth-2.kind (ledger_of sheet) (take (length answers.old) calls.now) }
+    ensures story { Story (heard R.Truth.Truth.kind R.Truth.Truth.means R.Recording.word judged.now) (heard B.Truth.Truth.kind B.Truth.Truth.means B.Recording.word written.now) (ledger_of sheet) (lent (tables machine.old) cells.old bits.old rows.old) (take (length answers.old) calls.now) (take (length calls.now) answers.new) (lent (tables machine.new) cells.new bits.new rows.new) }
+    ensures law { Throughout R.Truth.Truth.kind B.Truth.Truth.kind (ledger_of sheet) (take (length answers.old) calls.now) }
     ensures further { drop (length calls.now) answers.new ≡ drop (length calls.now) answers.old }
 {
     // the question's contract: the kind has no third value

@@ -30,7 +30,7 @@ fn has_variable(line: Line) -> bool
 // The value of a line one sample before, and `start` at sample 0.
 fn earlier<T: Truth>(cells: &[T], width: usize, number: usize, sample: usize, start: T) -> T
     requires { sample * width + number < length cells.now }
-    ensures { (d : T) → means result ≡ before kind (means start) (column means cells.now width number d) sample }
+    ensures { (d : T) → T.means result ≡ before T.kind (T.means start) (column T.means cells.now width number d) sample }
 {
     if sample == 0 {
         start
@@ -42,7 +42,7 @@ fn earlier<T: Truth>(cells: &[T], width: usize, number: usize, sample: usize, st
 // What the variable of a line shows at a sample.
 fn shown_at<T: Truth>(cells: &[T], width: usize, number: usize, line: Line, sample: usize) -> T
     requires { sample * width + number < length cells.now }
-    ensures { (d : T) → means result ≡ shown kind line (column means cells.now width number d) sample }
+    ensures { (d : T) → T.means result ≡ shown T.kind line (column T.means cells.now width number d) sample }
 {
     match line {
         Line::Since(_, _) => earlier(cells, width, number, sample, T::no()),

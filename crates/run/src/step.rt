@@ -35,9 +35,9 @@ pub fn perform<R: Recording, B: Recording>(
 where
     B::Truth: TwoValued,
     ensures ledger { ledger_of result.sheet ≡ next_ledger (ledger_of sheet) call }
-    ensures tells { Tells (heard Truth-as-Truth-1.kind Truth-as-Truth-1.means R.Recording.word judged.now) (heard Truth-as-Truth-2.kind Truth-as-Truth-2.means B.Recording.word written.now) (ledger_of sheet).form (ledger_of sheet) call result.answer (lent (tables machine.old) cells.old bits.old rows.old) (lent (tables machine.new) cells.new bits.new rows.new) }
-    ensures before { WhileSealed Truth-as-Truth-1.kind Truth-as-Truth-2.kind (ledger_of sheet) }
-    ensures after { WhileSealed Truth-as-Truth-1.kind Truth-as-Truth-2.kind (ledger_of result.sheet) }
+    ensures tells { Tells (heard R.Truth.Truth.kind R.Truth.Truth.means R.Recording.word judged.now) (heard B.Truth.Truth.kind B.Truth.Truth.means B.Recording.word written.now) (ledger_of sheet).form (ledger_of sheet) call result.answer (lent (tables machine.old) cells.old bits.old rows.old) (lent (tables machine.new) cells.new bits.new rows.new) }
+    ensures before { WhileSealed R.Truth.Truth.kind B.Truth.Truth.kind (ledger_of sheet) }
+    ensures after { WhileSealed R.Truth.Truth.kind B.Truth.Truth.kind (ledger_of result.sheet) }
 {
     // the question's contract: the kind has no third value
     let _ = B::Truth::no().is_yes();

@@ -7,8 +7,8 @@ use Rattle.run.proofs.history.carry_out.Given as goal
 
 abbrev pub invariant-loop-i : goal.invariant-loop-i
 invariant-loop-i g l =
-    let k = g.Truth.Truth-1 in
-    let b = g.Truth.Truth-2 in
+    let k = g.R.Truth.Truth in
+    let b = g.B.Truth.Truth in
     (ledger_of l.sheet ≡ after (ledger_of l.initial.sheet) (take l.i l.calls))
     × Story (heard k.kind k.means g.R.Recording.word l.judged) (heard b.kind b.means g.B.Recording.word l.written)
     (ledger_of l.initial.sheet)

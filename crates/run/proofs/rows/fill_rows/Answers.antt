@@ -2,8 +2,8 @@ use Rattle.std.proofs.Common.{◌+◌, ◌*◌, ◌≤◌, length, refl, mul-le-
 use Rattle.run.proofs.Filling.{rows_more}
 use Rattle.run.proofs.rows.fill_rows.Goals as goal
 
-pub row-at-requires : goal.row-at-requires
-row-at-requires g c =
+pub row_at-requires : goal.row_at-requires
+row_at-requires g c =
     let l = length c.args.lines.now in
     let up : (c.loop-t.t + 1) * l ≤ c.args.samples * l = mul-le-mul_right l (omega arith) in
     record {
@@ -14,5 +14,5 @@ row-at-requires g c =
 
 pub loop-t-preserved : goal.loop-t-preserved
 loop-t-preserved g c =
-    rows_more g.T.Truth.kind g.T.Truth.means c.args.lines.now c.args.cells.now c.args.rows.now c.loop-t.rows c.loop-t.t c.row-at.result
-    (omega (arith, c.requires.rows, c.loop-t.auto.rows)) c.loop-t.invariant c.row-at.ensures
+    rows_more g.T.Truth.kind g.T.Truth.means c.args.lines.now c.args.cells.now c.args.rows.now c.loop-t.rows c.loop-t.t c.row_at.result
+    (omega (arith, c.requires.rows, c.loop-t.auto.rows)) c.loop-t.invariant c.row_at.ensures

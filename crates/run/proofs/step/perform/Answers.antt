@@ -8,7 +8,7 @@ returns-in-Open g c =
       ledger = search rules;
       tells = search rules;
       before = sheet_law _ _ c.is_yes.ensures.two c.args.sheet;
-      after = sheet_law _ _ c.is_yes.ensures.two c.on-draft.result.sheet;
+      after = sheet_law _ _ c.is_yes.ensures.two c.on_draft.result.sheet;
     }
 
 pub returns-in-Shut : goal.returns-in-Shut
@@ -17,5 +17,5 @@ returns-in-Shut g c =
       ledger = search rules;
       tells = search rules;
       before = sheet_law _ _ c.is_yes.ensures.two c.args.sheet;
-      after = sheet_law _ _ c.is_yes.ensures.two c.on-sealed.result.sheet;
+      after = sheet_law _ _ c.is_yes.ensures.two c.on_sealed.result.sheet;
     }
