@@ -1,5 +1,5 @@
 -- What a write into a draft comes to.
-use Rattle.std.proofs.Common.{◌≡◌, ℕ, zero, suc, ◌+◌, ◌<◌, ◌≤◌, Bool, true, false, cond, eqb, List, [], ◌∷◌, ◌++◌, map, length, get_or, Some, None, Ok, Err, Option, Result, sym, refl, ap, ◌∙◌, subst, arith}
+use Rattle.std.proofs.Common.{◌≡◌, ℕ, zero, suc, ◌<◌, ◌≤◌, Bool, true, false, cond, eqb, List, [], ◌∷◌, ◌++◌, map, length, get_or, Some, None, Ok, Err, Option, Result, sym, refl, ap, ◌∙◌, subst, arith}
 use Rattle.std.proofs.lemmas.List.{append-nil}
 use Rattle.std.proofs.lemmas.Bool.Decides.{nat_tests}
 use Rattle.sheet.proofs.Front.{length_lines}
@@ -7,7 +7,7 @@ use Rattle.sheet.specs.declared.draft.Draft.{Draft}
 use Rattle.sheet.specs.declared.line.Line.{Line}
 use Rattle.sheet.specs.declared.refusal.Refusal.{Refusal}
 use Rattle.sheet.specs.declared.refusal.Refusal.TheVariants.{Code, Operand, Full, Empty}
-use Rattle.sheet.specs.Ledger.{Ledger, Answer, Written, Done, Refused, Write, fed, put, put_named}
+use Rattle.sheet.specs.Ledger.{Ledger, Answer, Written, Refused, Write, fed, put, put_named}
 use Rattle.sheet.specs.Refusals.{number_of}
 use Rattle.sheet.specs.Sheets.{lines_of, drafted, written}
 use Rattle.sheet.specs.Table.{lines_with, named_line, operands_of, blank}

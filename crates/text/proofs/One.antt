@@ -1,5 +1,5 @@
 -- The first fault of a text is one fault.
-use Rattle.std.proofs.Common.{◌≡◌, ℕ, ◌+◌, ◌-◌, ◌<◌, ◌≤◌, ◌⊎◌, List, [], ◌∷◌, ◌++◌, length, get_or, take, drop, sym, refl, ap, ◌∙◌, subst, inl, inr, arith}
+use Rattle.std.proofs.Common.{◌≡◌, ℕ, ◌+◌, ◌-◌, ◌<◌, ◌≤◌, ◌⊎◌, List, [], length, get_or, take, drop, sym, refl, ap, ◌∙◌, subst, inl, inr, arith}
 use Rattle.std.proofs.lemmas.List.{length-drop}
 use Rattle.lexer.specs.Names.{Letter, Letters, AllNames, AllDifferent}
 use Rattle.sheet.specs.declared.refusal.Refusal.TheVariants.{Full}
@@ -8,10 +8,10 @@ use Rattle.text.specs.declared.sign.Infix.{Infix}
 use Rattle.sheet.specs.declared.line.Line.{Line}
 use Rattle.sheet.specs.declared.refusal.Refusal.{Refusal}
 use Rattle.text.specs.declared.fault.Fault.{Fault}
-use Rattle.text.specs.declared.fault.Fault.TheVariants.{Byte, Early, Unknown, Deep, After, Long, Sheet as OfSheet}
-use Rattle.text.specs.Rules.{Rule, under, pair, spelled, Fits, written, prefix_sign, infix_sign}
-use Rattle.text.specs.Reading.{Reads, Stands, NoUnit, Faulty, ends, wrong, unknown, deep_prefix, deep_pair, in_under, in_left, in_right, ends_left, no_infix, ends_right, no_close, full_digit, full_name, full_under, full_pair, FirstFault, too_long, inside, goes_on, FullAlone}
-use Rattle.text.proofs.Unique.{prefix_no_digit, prefix_no_letter, prefix_no_bracket, digit_no_letter, same_prefix, same_infix, one_rule, ends_stop, no_fault, Cand}
+use Rattle.text.specs.declared.fault.Fault.TheVariants.{Byte, Early, Unknown, Deep, After, Sheet as OfSheet}
+use Rattle.text.specs.Rules.{Rule, written, prefix_sign, infix_sign}
+use Rattle.text.specs.Reading.{Reads, Stands, NoUnit, Faulty, ends, wrong, unknown, deep_prefix, deep_pair, in_under, in_left, in_right, ends_left, no_infix, ends_right, no_close, full_digit, full_name, full_under, full_pair, FirstFault, too_long, inside, goes_on}
+use Rattle.text.proofs.Unique.{prefix_no_digit, prefix_no_letter, prefix_no_bracket, digit_no_letter, one_rule, ends_stop, no_fault}
 
 -- two rules that are read from one place are one
 same_reads : (names : List (List ℕ)) → AllNames names → AllDifferent names → (text : List ℕ) (n : ℕ) (ls : List Line) (at : ℕ) (l q : Rule) (a b : ℕ)

@@ -1,6 +1,6 @@
 -- What each way through the reader shows.
-use Rattle.std.proofs.Common.{◌≡◌, ℕ, ◌+◌, ◌-◌, ◌<◌, ◌≤◌, eqb, ◌⊎◌, List, [], ◌∷◌, ◌++◌, length, get_or, take, drop, IsErrAnd, Some, Ok, Err, Result, sym, refl, ap, ◌∙◌, subst, inl, inr, ⊎_elim, arith, Bor}
-use Rattle.std.proofs.lemmas.List.{append-nil, append_assoc, length_push, length-append, drop_more, take-append-drop, drop-drop, get_or_past, length-take-le}
+use Rattle.std.proofs.Common.{◌≡◌, ℕ, ◌+◌, ◌-◌, ◌<◌, ◌≤◌, eqb, ◌⊎◌, List, [], ◌∷◌, ◌++◌, length, get_or, drop, IsErrAnd, Some, Ok, Err, Result, sym, ap, ◌∙◌, subst, inl, inr, arith, Bor}
+use Rattle.std.proofs.lemmas.List.{append_assoc, length_push, drop_more, take-append-drop, drop-drop, get_or_past}
 use Rattle.std.proofs.lemmas.Result.{err_from_is_err_and}
 use Rattle.lexer.specs.declared.token.Token.{Token}
 use Rattle.lexer.specs.declared.token.Token.TheVariants.{Sign, Digit, Name}
@@ -14,10 +14,10 @@ use Rattle.text.specs.declared.sign.Prefix.TheVariants.{Not, Next, Previous, Wea
 use Rattle.text.specs.declared.sign.Infix.{Infix}
 use Rattle.text.specs.declared.reader.Done.{Done}
 use Rattle.text.specs.declared.fault.Fault.{Fault}
-use Rattle.text.specs.declared.fault.Fault.TheVariants.{Byte, Early, Unknown, Deep, Sheet as OfSheet}
-use Rattle.text.specs.Rules.{Rule, truth, signal, under, pair, spelled, Fits, written, last, prefix_sign, infix_sign, prefix_lines, infix_lines}
+use Rattle.text.specs.declared.fault.Fault.TheVariants.{Unknown, Sheet as OfSheet}
+use Rattle.text.specs.Rules.{Rule, truth, signal, under, pair, spelled, written, last, prefix_sign, infix_sign, prefix_lines, infix_lines}
 use Rattle.text.specs.Steps.{Missing, Whole, Outcome, Wrote}
-use Rattle.text.specs.Reading.{Reads, Stands, NoUnit, Faulty, ends, wrong, unknown, deep_prefix, deep_pair, in_under, in_left, in_right, ends_left, no_infix, ends_right, no_close, full_digit, full_name, full_under, full_pair}
+use Rattle.text.specs.Reading.{Reads, Stands, NoUnit, Faulty, unknown, in_right, ends_left, no_infix, ends_right, no_close, full_digit, full_name, full_under, full_pair}
 
 -- an exit with a fault
 

@@ -1,5 +1,5 @@
 -- What the whole reader shows.
-use Rattle.std.proofs.Common.{◌≡◌, ℕ, ◌+◌, ◌-◌, ◌<◌, ◌≤◌, List, [], ◌∷◌, ◌++◌, length, take, drop, IsErrAnd, Ok, Err, Result, sym, refl, ap, ◌∙◌, subst, arith}
+use Rattle.std.proofs.Common.{◌≡◌, ℕ, ◌≤◌, List, ◌++◌, length, take, IsErrAnd, Ok, Err, Result, sym, ap, ◌∙◌, subst, arith}
 use Rattle.std.proofs.lemmas.List.{append-nil, take_at, drop_all}
 use Rattle.std.proofs.lemmas.Result.{err_from_is_err_and}
 use Rattle.sheet.specs.declared.draft.Draft.{Draft}
@@ -11,7 +11,7 @@ use Rattle.text.specs.declared.reader.Done.{Done}
 use Rattle.text.specs.Guards.{Grown, Onward, held}
 use Rattle.lexer.specs.Names.{Good, names_of}
 use Rattle.text.specs.Reading.{Accepted, Faulty, FirstFault, FullAlone, Unambiguous, Verdict}
-use Rattle.text.specs.Rules.{Rule, spelled, written}
+use Rattle.text.specs.Rules.{Rule, spelled}
 use Rattle.text.specs.Steps.{Whole}
 use Rattle.lexer.proofs.Naming.{good_names, good_different}
 use Rattle.text.proofs.One.{one_fault, first_full}

@@ -1,5 +1,5 @@
 -- What a rule text says: a rule, or its first fault.
-use Rattle.std.specs.Prelude.{◌≡◌, ℕ, ◌+◌, ◌-◌, ◌<◌, ◌≤◌, List, [], ◌∷◌, ◌++◌, length, get_or, drop, Ok, Err, Result, ◌≢◌, slice_index, slice_index_or, slice_range}
+use Rattle.std.specs.Prelude.{◌≡◌, ℕ, ◌+◌, ◌-◌, ◌<◌, ◌≤◌, List, [], ◌++◌, length, get_or, drop, Ok, Err, Result, ◌≢◌, slice_index, slice_index_or, slice_range}
 use Rattle.sheet.specs.declared.line.Line.{Line}
 use Rattle.sheet.specs.declared.refusal.Refusal.{Refusal}
 use Rattle.sheet.specs.declared.refusal.Refusal.TheVariants.{Full}
@@ -9,7 +9,7 @@ use Rattle.text.specs.declared.fault.Fault.{Fault}
 use Rattle.text.specs.declared.fault.Fault.TheVariants.{Byte, Early, Unknown, Deep, After, Long, Sheet as OfSheet}
 use Rattle.text.specs.Guards.{Grown}
 use Rattle.lexer.specs.Names.{Letter, Letters}
-use Rattle.text.specs.Rules.{Rule, truth, signal, under, pair, spelled, Fits, written, prefix_sign, infix_sign}
+use Rattle.text.specs.Rules.{Rule, under, pair, spelled, Fits, written, prefix_sign, infix_sign}
 
 -- From the place `at`, inside n levels and after the lines `ls`, the text has the rule r up to the place `end`.
 pub record Reads (names : List (List ℕ)) (text : List ℕ) (n : ℕ) (ls : List Line) (at : ℕ) (r : Rule) (end : ℕ) : Type 0 where
