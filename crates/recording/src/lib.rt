@@ -1,4 +1,6 @@
 // Truth kinds, and recordings, whose meaning is an endless word: tapes, gapped tapes, wheels.
+#![tactic(auto)]
+
 pub mod gapped;
 mod masks;
 pub mod recording;

@@ -1,11 +1,10 @@
 -- The lines of a draft, as many as its count, and what the ledger answers and leaves in each case.
-use Rattle.std.proofs.Common.{◌≡◌, ℕ, zero, suc, ◌+◌, ◌-◌, ◌<◌, ◌≤◌, Bool, true, false, ◌&&◌, eqb, ltb, ◌≢◌, List, [], ◌∷◌, ◌++◌, map, length, get_or, take, set, Some, None, Option, sym, refl, ap, ◌∙◌, subst, arith, length-take-le, get_or-set_other, get_or-take, get_or-set_same, take-take, below_more}
+use Rattle.std.proofs.Common.{◌≡◌, ℕ, zero, suc, ◌+◌, ◌-◌, ◌<◌, true, false, ◌&&◌, eqb, ltb, ◌≢◌, List, [], ◌∷◌, ◌++◌, map, length, get_or, take, set, Some, None, Option, sym, refl, subst, arith, length-take-le, get_or-set_other, get_or-take, get_or-set_same, take-take, below_more}
 use Rattle.std.proofs.lemmas.List.{take_more_set}
 use Rattle.std.proofs.lemmas.Bool.{and_parts}
 use Rattle.std.proofs.lemmas.Bool.Decides.{nat_tests}
 use Rattle.sheet.specs.declared.draft.Draft.{Draft}
 use Rattle.sheet.specs.declared.line.Line.{Line}
-use Rattle.sheet.specs.declared.line.Line.TheVariants.{Const, Signal, Not, And, Or, Next, Until, WeakUntil, Previous, WeakPrevious, Since, WeakSince}
 use Rattle.sheet.specs.Ledger.{Written, Done, Refused, Drafted, Write, Strike, fed}
 use Rattle.sheet.specs.Sheets.{lines_of, drafted}
 use Rattle.sheet.specs.Table.{lines_with, named_line, operands_of, fits, blank, Lower, Sheet}

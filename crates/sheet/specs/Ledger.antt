@@ -1,6 +1,6 @@
 -- The ledger of a sheet: its lines and its form, and what each call answers and leaves. It is told from the rules
 -- alone and knows nothing of how a sheet is kept; refusals are their numbers.
-use Rattle.std.specs.Prelude.{ℕ, ◌-◌, Bool, true, false, cond, List, [], ◌∷◌, ◌++◌, length, take, Some, None, Option, ◌==◌}
+use Rattle.std.specs.Prelude.{ℕ, ◌-◌, cond, List, [], ◌∷◌, ◌++◌, length, take, Some, None, Option, ◌==◌}
 use Rattle.sheet.specs.declared.line.Line.{Line}
 use Rattle.sheet.specs.Table.{named_line, operands_of}
 

@@ -1,4 +1,4 @@
-use Rattle.std.proofs.Common.{◌+◌, ◌-◌, ◌%◌, ◌<◌, mod-eq_of_lt, arith}
+use Rattle.std.proofs.Common.{◌-◌, ◌<◌, mod-eq_of_lt, arith}
 use Rattle.recording.proofs.masks.mask_number.Goals as goal
 
 pub returns-then-sample-stem : goal.returns-then-sample-stem
