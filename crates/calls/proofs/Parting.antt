@@ -1,6 +1,6 @@
 -- Numbers, word by word.
 use Rattle.std.proofs.Common.{◌≡◌, ℕ, ◌+◌, ◌<◌, List, [], ◌∷◌, ◌++◌, length, Some, None, Option, sym, refl, ap, ◌∙◌, append_assoc, arith, length-append}
-use Rattle.calls.specs.Words.{both, number, numbers}
+use Rattle.calls.specs.Words.{both}
 
 -- what was found before the rest
 abbrev pub before : List ℕ → Option (List ℕ) → Option (List ℕ)
