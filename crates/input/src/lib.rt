@@ -1,4 +1,6 @@
 // Standard input, as far as a buffer goes.
+#![tactic(auto)]
+
 ghost use Rattle.std.specs.Prelude.{◌≤◌, length, IfOk};
 
 use std::io;
