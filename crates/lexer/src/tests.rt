@@ -38,7 +38,7 @@ fn names_lines(rt: HostRuntime) -> Result<(), Fail> {
     }
     let names = Names::new(b"crank oil a eightlet")?;
     assert_eq!(rt; names.count(), 4);
-    assert!(rt; names.get(1).ok_or("no name")? == b"oil");
+    assert!(rt; names.get(1).ok_or("no name")? == b"oil".as_slice());
     assert!(rt; names.get(4).is_none());
     assert!(rt; names.get(255).is_none());
     assert_eq!(rt; names.find(b"a"), Some(2));

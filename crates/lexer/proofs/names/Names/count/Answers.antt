@@ -1,4 +1,4 @@
-use Rattle.std.proofs.Common.{arith, Fits-lit}
+use Rattle.std.proofs.Common.{arith}
 use Rattle.lexer.specs.Names.{line_of}
 use Rattle.lexer.proofs.Naming.{few}
 use Rattle.lexer.proofs.names.Names.count.Goals as goal

@@ -1,4 +1,4 @@
-use Rattle.std.proofs.Common.{◌≡◌, sym, refl, ◌∙◌, subst, arith, below_more}
+use Rattle.std.proofs.Common.{sym, refl, ◌∙◌, subst, arith, below_more}
 use Rattle.lexer.specs.Names.{IsName}
 use Rattle.lexer.proofs.Naming.{few, good_names, good_different, made_good, refuted}
 use Rattle.lexer.proofs.names.Names.new.Goals as goal
