@@ -83,9 +83,9 @@ class Script:
     """A script under way. Its calls are made on a session of the second program
     at once, so that the next ones can be chosen by where it stands."""
 
-    def __init__(self, rng, budget):
-        self.rng, self.budget = rng, budget
-        self.session = second.Session()
+    def __init__(self, rng, run, budget):
+        self.rng, self.run, self.budget = rng, run, budget
+        self.session = second.Session(run)
         self.calls = []
         self.answers = []
         self.style = rng.choice(STYLES)
@@ -206,6 +206,8 @@ class Script:
 def part_junk(m):
     for _ in range(m.rng.randint(1, 3)):
         m.call(m.rng.choice(JUNK))
+    if not m.run and m.chance(0.2):
+        m.call(m.rng.choice(("run", "rows 3", "rows 0")))
 
 
 def part_writes(m):
@@ -311,7 +313,7 @@ def part_wheels(m):
 
 def part_cells(m):
     m.call("cells", m.number(m.rng.choice((0, 1, 100, second.ALL_CELLS, *HUGE))))
-    if m.chance(0.5):
+    if m.run and m.chance(0.5):
         m.call("rows", m.number(m.rng.choice((0, 1, 5, 4351, 4352, 4353, *HUGE))))
 
 
@@ -326,7 +328,7 @@ def part_judge(m):
         m.call("judge")
         m.call("cells", second.ALL_CELLS)
         return
-    judges = ("judge", "run", "run")
+    judges = ("judge", "run", "run") if m.run else ("judge",)
     edge = session.recording is not None and m.chance(0.15)
     if edge:
         rows = second.judged_rows(session.lines, session.recording)
@@ -334,12 +336,13 @@ def part_judge(m):
         m.call("cells", need - 1)
         m.call(rng.choice(judges))
         m.call("cells", need)
-        m.call("rows", rows - 1)
-        m.call("run")
-        m.call("rows", rows)
+        if m.run:
+            m.call("rows", rows - 1)
+            m.call("run")
+            m.call("rows", rows)
     elif session.cells < second.ALL_CELLS and m.chance(0.9):
         m.call("cells", second.ALL_CELLS)
-    if not edge and m.chance(0.8):
+    if m.run and not edge and m.chance(0.8):
         m.call("rows", 4352)
     m.call(rng.choice(judges))
     if m.chance(0.3):
@@ -493,9 +496,9 @@ PARTS = (
 )
 
 
-def random_script(rng):
-    m = Script(rng, 500_000 if rng.random() < 0.04 else 40_000)
-    goal = rng.choice((30, 60, 100, 150, 200, 300, 400))
+def random_script(rng, run):
+    m = Script(rng, run, 500_000 if rng.random() < 0.04 else 40_000)
+    goal = rng.choice((30, 60, 100, 150, 200, 250, 300))
     parts, weights = zip(*PARTS)
     while len(m.calls) < goal:
         rng.choices(parts, weights)[0](m)
@@ -504,7 +507,7 @@ def random_script(rng):
         data = damage(rng, data, rng.choice((1, 2, 5, 20)))
         if rng.random() < 0.3:
             data = data.rstrip(b"\n")
-        return data, second.script(data)
+        return data, second.script(data, run)
     if rng.random() < 0.2 and m.calls[-1]:
         data = data[:-1]
     return data, text(m.answers)

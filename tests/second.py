@@ -2,8 +2,11 @@
 """A second program for scripts and bench files, written from docs/REFERENCE.md
 alone. It shares nothing with the first one.
 
-    second.py script     reads a script on standard input
-    second.py listing    reads a bench file on standard input
+    second.py script [--run]    reads a script on standard input
+    second.py listing           reads a bench file on standard input
+
+With --run a script also has the calls `rows N` and `run`; without it those
+lines are unread, as any other line that is no call.
 """
 
 import re
@@ -457,11 +460,10 @@ SHAPES = {
     b"gapped": (3, None),
     b"wheel": (3, 3),
     b"cells": (1, 1),
-    b"rows": (1, 1),
     b"judge": (0, 0),
-    b"run": (0, 0),
     b"check": (1, None),
 }
+RUN_SHAPES = {b"rows": (1, 1), b"run": (0, 0)}
 
 ON_DRAFT = ("write", "strike", "seal")
 ON_SEALED = ("reopen", "translate", "judge", "run")
@@ -478,7 +480,8 @@ def number(word):
 class Session:
     """The state of one script. `answer` makes one call and gives its answer."""
 
-    def __init__(self):
+    def __init__(self, with_run=False):
+        self.shapes = {**SHAPES, **RUN_SHAPES} if with_run else SHAPES
         self.lines = []
         self.sealed = False
         self.machine = Machine()
@@ -490,7 +493,7 @@ class Session:
         """The lines printed for the line of this number, as a list."""
         words = line.split(b" ")
         call, rest = words[0], words[1:]
-        least, most = SHAPES.get(call, (None, None))
+        least, most = self.shapes.get(call, (None, None))
         if (
             least is None
             or len(rest) < least
@@ -585,13 +588,13 @@ class Session:
         ]
 
 
-def script(data):
+def script(data, with_run=False):
     if len(data) > MAX_SCRIPT:
         return b"unread: too long\n"
     lines = data.split(b"\n")
     if lines[-1] == b"":
         lines.pop()
-    session = Session()
+    session = Session(with_run)
     out = []
     for index, line in enumerate(lines):
         out += session.answer(index, line)
@@ -763,8 +766,8 @@ def listing(data):
 
 def main(args):
     data_in, data_out = sys.stdin.buffer, sys.stdout.buffer
-    if args == ["script"]:
-        data_out.write(script(data_in.read()))
+    if args == ["script"] or args == ["script", "--run"]:
+        data_out.write(script(data_in.read(), "--run" in args))
     elif args == ["listing"]:
         data_out.write(listing(data_in.read()))
     else:

@@ -30,7 +30,7 @@ SIGNATURE = re.compile(
 PARAMETERS = re.compile(r"[({]((?:[\w'\-]+\s+)+):\s")
 RENAMED = re.compile(r"\bas (" + NAME + r")")
 IMPORT = re.compile(r"^(?:ghost )?use (Rattle\.[\w.'+]*)\.\{([^}]*)\}", re.M)
-ANTT = re.compile(r"(?P<keep>(?:(?<=\s)|^)--(?=\s|$).*$)|(?P<name>" + WORD + ")", re.M)
+ANTT = re.compile(r"(?P<keep>(?:(?<=\s)|^)--(?=\s|$).*$|\"(?:\\.|[^\"\\])*\")|(?P<name>" + WORD + ")", re.M)
 RUST = re.compile(r"(?P<keep>//.*$|b?\"(?:\\.|[^\"\\])*\")|(?P<name>" + WORD + ")", re.M)
 
 

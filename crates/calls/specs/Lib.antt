@@ -1,2 +1,11 @@
 pub mod Words
 pub mod Reading
+pub mod Truths
+pub mod Telling
+pub mod Performing
+pub mod Narrowing
+pub mod Benches
+pub mod Judgements
+pub mod Checking
+pub mod Shown
+pub mod Answering

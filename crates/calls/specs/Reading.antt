@@ -1,5 +1,5 @@
 -- Which call a line of a script is: a word that names the call, and the numbers that it takes, parted by one space.
-use Rattle.std.specs.Prelude.{ℕ, ◌+◌, ◌/◌, min, cond, List, [], ◌∷◌, length, take, drop, Some, None, vec_items, codes, Option, Vec, ◌==◌, nat_le, slice_index}
+use Rattle.std.specs.Prelude.{ℕ, ◌+◌, ◌/◌, min, Bool, true, false, cond, List, [], ◌∷◌, length, take, drop, Some, None, vec_items, codes, Option, Vec, ◌==◌, nat_le, slice_index}
 use Rattle.std.specs.Str.{bytes_eq}
 use Rattle.std.specs.declared.alloc.Global.{Global}
 use Rattle.calls.specs.declared.call.BenchCall.{BenchCall}
@@ -11,8 +11,7 @@ use Rattle.calls.specs.declared.call.SheetCall.TheVariants as sheet
 use Rattle.calls.specs.declared.call.TapeSizes.{TapeSizes}
 use Rattle.calls.specs.declared.call.Verb.{Verb}
 use Rattle.calls.specs.declared.call.Verb.TheVariants as verb
-use Rattle.calls.specs.Words.{numbers}
-use Rattle.lexer.specs.Parts.{parts}
+use Rattle.calls.specs.Words.{parts, numbers}
 
 -- what a line may say: a call, with the numbers that it takes as lists
 pub data Said : Type 0 where
@@ -24,7 +23,7 @@ pub data Said : Type 0 where
   -- teeth, gap and start
   Wheel : ℕ → ℕ → ℕ → Said
   Cells : ℕ → Said
-  Rows : ℕ → Said
+  Judge : Said
   -- the number of the row that comes after the last, and the rows
   Check : ℕ → List ℕ → Said
 
@@ -34,7 +33,7 @@ said_to_bench (bench.Tape sizes masks) = Tape sizes (vec_items masks)
 said_to_bench (bench.Gapped sizes masks lost) = Gapped sizes (vec_items masks) (vec_items lost)
 said_to_bench (bench.Wheel teeth gap start) = Wheel teeth gap start
 said_to_bench (bench.Cells n) = Cells n
-said_to_bench (bench.Rows n) = Rows n
+said_to_bench bench.Judge = Judge
 said_to_bench (bench.Check back rows) = Check back (vec_items rows)
 
 abbrev pub said : Call → Said
@@ -56,10 +55,8 @@ verb_of w =
     (cond (bytes_eq w (codes "gapped")) (Some verb.Gapped)
     (cond (bytes_eq w (codes "wheel")) (Some verb.Wheel)
     (cond (bytes_eq w (codes "cells")) (Some verb.Cells)
-    (cond (bytes_eq w (codes "rows")) (Some verb.Rows)
     (cond (bytes_eq w (codes "judge")) (Some verb.Judge)
-    (cond (bytes_eq w (codes "run")) (Some verb.Run)
-    (cond (bytes_eq w (codes "check")) (Some verb.Check) None))))))))))))
+    (cond (bytes_eq w (codes "check")) (Some verb.Check) None))))))))))
 
 -- the name of a call
 abbrev pub sheet_verb : SheetCall → Verb
@@ -68,15 +65,13 @@ sheet_verb sheet.Strike = verb.Strike
 sheet_verb sheet.Seal = verb.Seal
 sheet_verb sheet.Reopen = verb.Reopen
 sheet_verb sheet.Translate = verb.Translate
-sheet_verb sheet.Judge = verb.Judge
-sheet_verb sheet.Run = verb.Run
 
 abbrev pub bench_verb : BenchCall → Verb
 bench_verb (bench.Tape sizes masks) = verb.Tape
 bench_verb (bench.Gapped sizes masks lost) = verb.Gapped
 bench_verb (bench.Wheel teeth gap start) = verb.Wheel
 bench_verb (bench.Cells n) = verb.Cells
-bench_verb (bench.Rows n) = verb.Rows
+bench_verb bench.Judge = verb.Judge
 bench_verb (bench.Check back rows) = verb.Check
 
 -- a number past 8 bits counts as 255, which is refused like it
@@ -112,9 +107,8 @@ gaps ns = cond (nat_le 3 (length ns)) (Some (halved (sizes_in ns) (drop 3 ns))) 
 abbrev pub turns : List ℕ → Option Said
 turns ns = cond (length ns == 3) (Some (Wheel (slice_index ns 0) (slice_index ns 1) (slice_index ns 2))) None
 
--- how many cells or rows are lent
-abbrev pub lends : (ℕ → Said) → List ℕ → Option Said
-lends these ns = cond (length ns == 1) (Some (these (slice_index ns 0))) None
+abbrev pub lends : List ℕ → Option Said
+lends ns = cond (length ns == 1) (Some (Cells (slice_index ns 0))) None
 
 -- the row that comes after the last, and then rows
 abbrev pub checks : List ℕ → Option Said
@@ -130,10 +124,8 @@ call_of verb.Translate ns = alone (OnSheet sheet.Translate) ns
 call_of verb.Tape ns = tapes ns
 call_of verb.Gapped ns = gaps ns
 call_of verb.Wheel ns = turns ns
-call_of verb.Cells ns = lends Cells ns
-call_of verb.Rows ns = lends Rows ns
-call_of verb.Judge ns = alone (OnSheet sheet.Judge) ns
-call_of verb.Run ns = alone (OnSheet sheet.Run) ns
+call_of verb.Cells ns = lends ns
+call_of verb.Judge ns = alone Judge ns
 call_of verb.Check ns = checks ns
 
 abbrev pub named : Option Verb → Option (List ℕ) → Option Said

@@ -1,5 +1,19 @@
--- Numbers in base ten.
-use Rattle.std.specs.Prelude.{ℕ, ◌+◌, ◌-◌, ◌*◌, ◌^◌, min, Bool, true, cond, ◌&&◌, List, [], ◌∷◌, Some, None, Option, nat_le}
+-- The parts of a text between the bytes that part it, and numbers in base ten.
+use Rattle.std.specs.Prelude.{ℕ, zero, suc, ◌+◌, ◌-◌, ◌*◌, ◌^◌, min, Bool, true, false, cond, ◌&&◌, List, [], ◌∷◌, ◌++◌, length, Some, None, Option, ◌==◌, nat_le}
+
+abbrev pub add_first : ℕ → List (List ℕ) → List (List ℕ)
+add_first b [] = (b ∷ []) ∷ []
+add_first b (w ∷ ws) = (b ∷ w) ∷ ws
+
+-- the parts between the bytes s: one more than there are of those
+abbrev pub parts : ℕ → List ℕ → List (List ℕ)
+parts s [] = [] ∷ []
+parts s (b ∷ bs) = cond (b == s) ([] ∷ parts s bs) (add_first b (parts s bs))
+
+-- how many bytes the first part has
+abbrev pub first_part : ℕ → List ℕ → ℕ
+first_part s [] = 0
+first_part s (b ∷ bs) = cond (b == s) 0 (suc (first_part s bs))
 
 abbrev pub is_digit : ℕ → Bool
 is_digit b = nat_le 48 b && nat_le b 57

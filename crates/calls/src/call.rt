@@ -1,7 +1,7 @@
 pub mod reading;
 
 /// The name of a call.
-#[derive(Clone, Copy)]
+#[derive(Clone, Copy, PartialEq, Eq, Debug)]
 pub enum Verb {
     Write,
     Strike,
@@ -12,28 +12,22 @@ pub enum Verb {
     Gapped,
     Wheel,
     Cells,
-    Rows,
     Judge,
-    Run,
     Check,
 }
 
-/// A call on the sheet, with what it takes.
-#[derive(Clone, Copy)]
+/// A call on the sheet and the machine place, with what it takes.
+#[derive(Clone, Copy, PartialEq, Eq, Debug)]
 pub enum SheetCall {
-    /// code, left and right
     Write(u8, u8, u8),
     Strike,
     Seal,
     Reopen,
     Translate,
-    Judge,
-    /// writes out the run
-    Run,
 }
 
 /// The sizes that a tape is asked for with.
-#[derive(Clone, Copy)]
+#[derive(Clone, Copy, PartialEq, Eq, Debug)]
 pub struct TapeSizes {
     pub signals: u128,
     pub stem: u128,
@@ -51,8 +45,7 @@ pub enum BenchCall {
     Wheel(u128, u128, u128),
     /// how many cells are lent from now on
     Cells(u128),
-    /// how many rows are lent from now on
-    Rows(u128),
+    Judge,
     /// the number of the row that comes after the last, and the rows
     Check(u128, Vec<u128>),
 }

@@ -1,25 +1,23 @@
 // Reads calls from standard input, one a line, and prints each answer before the next call is made.
 #![tactic(auto)]
 
+use calls::answer::{Answer, Told};
+use calls::bench::{Bench, JudgedRows};
 use calls::call::reading::read_call;
 use calls::call::{Call, Verb};
+use calls::parts::part_end;
+use calls::session::Sheet;
+use calls::session::performing::{Stepped, perform};
 use input::read_input;
-use lexer::parts::first_part;
 use machine::place::Machine;
-use run::form::Sheet;
-use session::answer::Answer;
-use session::bench::Bench;
-use session::performing::{Stepped, perform};
+use sheet::draft::Draft;
 use tables::printed::Printed;
-use telling::told::{JudgedRows, RunRows, Told};
 
 /// How many bytes of input are read at most.
 const MOST: usize = 1_048_576;
 
-/// How many cells of each truth kind there are, and how many rows.
+/// How many cells of each truth kind there are.
 const CELLS: usize = 278_528;
-
-const ROWS: usize = 4_352;
 
 // Prints an answer, and what follows it.
 fn tell(
@@ -37,13 +35,7 @@ fn tell(
             print!(rt; "{printed}")?;
         }
         Answer::Values(judged) => {
-            let filled = judged.filled;
-            let values = JudgedRows { bench, filled };
-            print!(rt; "{values}")?;
-        }
-        Answer::Run(run) => {
-            let count = run.rows;
-            let rows = RunRows { bench, count };
+            let rows = JudgedRows { bench, judged };
             print!(rt; "{rows}")?;
         }
         _ => {}
@@ -66,13 +58,13 @@ fn answer_line(
     };
     match call {
         Call::OnSheet(call) => {
-            let Stepped { sheet, answer } = perform(sheet, call, machine, bench);
+            let Stepped { sheet, answer } = perform(sheet, call, machine);
             tell(rt, call.verb(), answer, machine, bench)?;
             Ok(sheet)
         }
         Call::OnBench(call) => {
             let verb = call.verb();
-            let answer = bench.answer(rt.alloc(), call, machine)?;
+            let answer = bench.answer(rt.alloc(), call, &sheet, machine)?;
             tell(rt, verb, answer, machine, bench)?;
             Ok(sheet)
         }
@@ -80,19 +72,16 @@ fn answer_line(
 }
 
 fn answer_all(rt: &HostRuntime, text: &[u8]) -> anyhow::Result<()> {
-    let mut sheet = Sheet::new();
+    let mut sheet = Sheet::Open(Draft::new());
     let mut machine = Machine::new();
-    let mut bench = Bench::new(rt.alloc(), CELLS, ROWS)?;
-    let mut rest = text;
-    let mut number = 0usize;
-    while rest.len() > 0 {
-        let line = first_part(rest, b'\n');
-        sheet = answer_line(rt, line.bytes, number, sheet, &mut machine, &mut bench)?;
-        match line.rest {
-            None => return Ok(()),
-            Some(more) => rest = more,
-        }
-        number = number.saturating_add(1);
+    let mut bench = Bench::new(rt.alloc(), CELLS)?;
+    let mut at = 0;
+    let mut number = 0;
+    while at < text.len() {
+        let end = part_end(text, at, b'\n');
+        sheet = answer_line(rt, &text[at..end], number, sheet, &mut machine, &mut bench)?;
+        at = end + 1;
+        number += 1;
     }
     Ok(())
 }

@@ -8,7 +8,7 @@ use Rattle.recording.specs.declared.truth.Ternary.{Ternary}
 use Rattle.sheet.specs.Ledger.{Ledger}
 use Rattle.machine.specs.Tables.{Tables}
 use Rattle.run.specs.Story.{Heard, Lent, lent}
-use Rattle.calls.specs.declared.call.SheetCall.{SheetCall}
+use Rattle.asked.specs.declared.call.SheetCall.{SheetCall}
 use Rattle.session.specs.declared.answer.Answer.{Answer}
 use Rattle.session.specs.declared.answer.Answer.TheVariants as answer
 use Rattle.session.specs.declared.bench.Bench.{Bench}

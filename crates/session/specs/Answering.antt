@@ -11,8 +11,8 @@ use Rattle.session.specs.Benches.{taped, gapped, wheeled, lending_cells, lending
 use Rattle.session.specs.Checking.{OnRecorded}
 use Rattle.session.specs.declared.answer.Answer.{Answer}
 use Rattle.session.specs.declared.bench.Bench.{Bench}
-use Rattle.calls.specs.declared.call.BenchCall.{BenchCall}
-use Rattle.calls.specs.declared.call.BenchCall.TheVariants as call
+use Rattle.asked.specs.declared.call.BenchCall.{BenchCall}
+use Rattle.asked.specs.declared.call.BenchCall.TheVariants as call
 
 -- a tape, a gapped tape and a wheel are made of the numbers, or refused, as their makers say; a check leaves the bench
 -- as it was

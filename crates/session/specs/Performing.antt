@@ -11,7 +11,7 @@ use Rattle.run.specs.declared.answer.Answer as reply
 use Rattle.run.specs.Histories.{step}
 use Rattle.run.specs.Law.{WhileSealed}
 use Rattle.run.specs.Story.{Heard, Lent, lent, Tells}
-use Rattle.calls.specs.declared.call.SheetCall.{SheetCall}
+use Rattle.asked.specs.declared.call.SheetCall.{SheetCall}
 use Rattle.session.specs.declared.answer.Answer.{Answer}
 use Rattle.session.specs.declared.answer.Answer.TheVariants as answer
 use Rattle.session.specs.declared.bench.Bench.{Bench}

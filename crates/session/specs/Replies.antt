@@ -9,8 +9,8 @@ use Rattle.run.specs.declared.answer.Answer as reply_of
 use Rattle.run.specs.declared.answer.Answer.TheVariants as reply
 use Rattle.run.specs.declared.call.Call.{Call}
 use Rattle.run.specs.declared.call.Call.TheVariants as library
-use Rattle.calls.specs.declared.call.SheetCall.{SheetCall}
-use Rattle.calls.specs.declared.call.SheetCall.TheVariants as call
+use Rattle.asked.specs.declared.call.SheetCall.{SheetCall}
+use Rattle.asked.specs.declared.call.SheetCall.TheVariants as call
 use Rattle.session.specs.declared.answer.Answer.{Answer}
 use Rattle.session.specs.declared.answer.Answer.TheVariants as answer
 use Rattle.session.specs.declared.answer.Filled.{Filled}

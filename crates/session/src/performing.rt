@@ -10,7 +10,7 @@ use crate::among::AmongThree;
 use crate::answer::Answer;
 use crate::bench::{Bench, Lending, Recorded};
 use crate::replying::{call_of, filled_by, told};
-use calls::call::SheetCall;
+use asked::call::SheetCall;
 use machine::place::Machine;
 use recording::recording::Recording;
 use recording::tape::Tape;

@@ -5,7 +5,7 @@ ghost use Rattle.session.specs.Replies.{done_as, filled_on, made_as, told as tol
 
 use crate::among::AmongThree;
 use crate::answer::{Answer, Filled, Judged};
-use calls::call::SheetCall;
+use asked::call::SheetCall;
 use meaning::extent::reach_of;
 use recording::recording::Recording;
 use run::answer::Answer as Reply;

@@ -5,8 +5,8 @@ use Rattle.session.specs.declared.answer.Answer.TheVariants as answer
 use Rattle.run.specs.declared.answer.Form.{Form}
 use Rattle.run.specs.declared.answer.Form.TheVariants as form
 use Rattle.telling.specs.declared.told.Told.{Told}
-use Rattle.calls.specs.declared.call.Verb.{Verb}
-use Rattle.calls.specs.declared.call.Verb.TheVariants as verb
+use Rattle.asked.specs.declared.call.Verb.{Verb}
+use Rattle.asked.specs.declared.call.Verb.TheVariants as verb
 use Rattle.session.specs.Among.{raised}
 use Rattle.telling.specs.Truths.{truth_text}
 
@@ -35,7 +35,7 @@ answer_text answer.Done = codes " done"
 answer_text (answer.Refused n) = codes " refused " ++ decimal n
 answer_text (answer.NotWhile x) = codes " not while " ++ form_text x
 answer_text answer.NoRecording = codes " no recording"
-answer_text answer.NotTwoValued = codes " not two_valued"
+answer_text answer.NotTwoValued = codes " not two-valued"
 answer_text answer.Tables = []
 answer_text (answer.Values j) = codes " " ++ truth_text j.verdict
 answer_text (answer.Run r) = codes " " ++ (decimal r.rows ++ (codes " " ++ (decimal r.back ++ (codes " " ++ truth_text r.verdict))))

@@ -4,7 +4,7 @@ ghost use Rattle.telling.specs.Telling.{verb_text, form_text, answer_text, told_
 
 use crate::told::Told;
 use crate::truth::Spelled;
-use calls::call::Verb;
+use asked::call::Verb;
 use run::answer::Form;
 use session::among::AmongThree;
 use session::answer::Answer;

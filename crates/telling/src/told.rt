@@ -1,4 +1,4 @@
-use calls::call::Verb;
+use asked::call::Verb;
 use session::answer::{Answer, Filled};
 use session::bench::Bench;
 

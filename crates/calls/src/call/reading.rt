@@ -1,13 +1,12 @@
 // Which call a line of a script is.
-ghost use Rattle.std.specs.Prelude.{◌≡◌, ◌≤◌, length, IfOk};
+ghost use Rattle.std.specs.Prelude.{◌≡◌, ◌≤◌, length, drop, IfOk};
 ghost use Rattle.std.specs.Str.{bytes_eq};
-ghost use Rattle.calls.specs.Reading.{Cells, Rows, byte as byte_of, verb_of, alone as Alone_of, writes, sizes_in, tapes, gaps, turns, lends, checks, call_of, items_in, call_on, sheet_verb, bench_verb, said, said_in};
-ghost use Rattle.calls.specs.Words.{numbers};
-ghost use Rattle.lexer.specs.Parts.{parts};
+ghost use Rattle.calls.specs.Reading.{byte as byte_of, verb_of, alone as Alone_of, writes, sizes_in, tapes, gaps, turns, lends, checks, call_of, items_in, call_on, sheet_verb, bench_verb, said, said_in};
+ghost use Rattle.calls.specs.Words.{parts, numbers};
 
 use crate::call::{BenchCall, Call, SheetCall, TapeSizes, Verb};
 use crate::number::read_number;
-use lexer::parts::first_part;
+use crate::parts::part_end;
 use std::alloc::{AllocError, Global};
 
 impl SheetCall {
@@ -21,8 +20,6 @@ impl SheetCall {
             SheetCall::Seal => Verb::Seal,
             SheetCall::Reopen => Verb::Reopen,
             SheetCall::Translate => Verb::Translate,
-            SheetCall::Judge => Verb::Judge,
-            SheetCall::Run => Verb::Run,
         }
     }
 }
@@ -37,7 +34,7 @@ impl BenchCall {
             BenchCall::Gapped(_, _, _) => Verb::Gapped,
             BenchCall::Wheel(_, _, _) => Verb::Wheel,
             BenchCall::Cells(_) => Verb::Cells,
-            BenchCall::Rows(_) => Verb::Rows,
+            BenchCall::Judge => Verb::Judge,
             BenchCall::Check(_, _) => Verb::Check,
         }
     }
@@ -79,14 +76,8 @@ fn named(word: &[u8]) -> Option<Verb>
     if is(word, b"cells") {
         return Some(Verb::Cells);
     }
-    if is(word, b"rows") {
-        return Some(Verb::Rows);
-    }
     if is(word, b"judge") {
         return Some(Verb::Judge);
-    }
-    if is(word, b"run") {
-        return Some(Verb::Run);
     }
     if is(word, b"check") {
         return Some(Verb::Check);
@@ -162,21 +153,12 @@ fn wheel_call(numbers: &[u128]) -> Option<Call>
 }
 
 fn cells_call(numbers: &[u128]) -> Option<Call>
-    ensures { said_in result ≡ lends Cells numbers.now }
+    ensures { said_in result ≡ lends numbers.now }
 {
     if numbers.len() != 1 {
         return None;
     }
     Some(Call::OnBench(BenchCall::Cells(numbers[0])))
-}
-
-fn rows_call(numbers: &[u128]) -> Option<Call>
-    ensures { said_in result ≡ lends Rows numbers.now }
-{
-    if numbers.len() != 1 {
-        return None;
-    }
-    Some(Call::OnBench(BenchCall::Rows(numbers[0])))
 }
 
 fn check_call(mut numbers: Vec<u128>) -> Result<Option<Call>, AllocError>
@@ -203,29 +185,28 @@ fn with_numbers(verb: Verb, numbers: Vec<u128>) -> Result<Option<Call>, AllocErr
         Verb::Gapped => gapped_call(numbers),
         Verb::Wheel => Ok(wheel_call(numbers.as_slice())),
         Verb::Cells => Ok(cells_call(numbers.as_slice())),
-        Verb::Rows => Ok(rows_call(numbers.as_slice())),
-        Verb::Judge => Ok(alone(Call::OnSheet(SheetCall::Judge), numbers.as_slice())),
-        Verb::Run => Ok(alone(Call::OnSheet(SheetCall::Run), numbers.as_slice())),
+        Verb::Judge => Ok(alone(Call::OnBench(BenchCall::Judge), numbers.as_slice())),
         Verb::Check => check_call(numbers),
     }
 }
 
-// The numbers that the words of a text are, if they all are.
-fn read_numbers(heap: Global, text: &[u8]) -> Result<Option<Vec<u128>>, AllocError>
-    ensures { IfOk result (λ o. items_in o ≡ numbers (parts 32 text.now)) }
+// The words from `from` on, where one begins, if they are all numbers.
+fn read_numbers(heap: Global, line: &[u8], from: usize) -> Result<Option<Vec<u128>>, AllocError>
+    requires { from ≤ length line.now }
+    ensures { IfOk result (λ o. items_in o ≡ numbers (parts 32 (drop from line.now))) }
 {
     let mut found = Vec::new(heap);
-    let mut rest = text;
+    let mut at = from;
     loop {
-        let part = first_part(rest, b' ');
-        let Some(number) = read_number(part.bytes) else {
+        let end = part_end(line, at, b' ');
+        let Some(number) = read_number(&line[at..end]) else {
             return Ok(None);
         };
         found.push(number)?;
-        match part.rest {
-            None => return Ok(Some(found)),
-            Some(more) => rest = more,
+        if end == line.len() {
+            return Ok(Some(found));
         }
+        at = end + 1;
     }
 }
 
@@ -233,15 +214,15 @@ fn read_numbers(heap: Global, text: &[u8]) -> Result<Option<Vec<u128>>, AllocErr
 pub fn read_call(heap: Global, line: &[u8]) -> Result<Option<Call>, AllocError>
     ensures { IfOk result (λ o. said_in o ≡ call_on line.now) }
 {
-    let word = first_part(line, b' ');
-    let Some(verb) = named(word.bytes) else {
+    let end = part_end(line, 0, b' ');
+    let Some(verb) = named(&line[0..end]) else {
         return Ok(None);
     };
-    match word.rest {
-        None => with_numbers(verb, Vec::new(heap)),
-        Some(rest) => match read_numbers(heap, rest)? {
-            Some(numbers) => with_numbers(verb, numbers),
-            None => Ok(None),
-        },
+    if end == line.len() {
+        return with_numbers(verb, Vec::new(heap));
+    }
+    match read_numbers(heap, line, end + 1)? {
+        Some(numbers) => with_numbers(verb, numbers),
+        None => Ok(None),
     }
 }

@@ -6,7 +6,7 @@ ghost use Rattle.session.specs.Answering.{Answers};
 use crate::answer::Answer;
 use crate::bench::Bench;
 use crate::bench::making::{gapped_of, tape_of, wheel_of};
-use calls::call::BenchCall;
+use asked::call::BenchCall;
 use machine::place::Machine;
 use std::alloc::{AllocError, Global};
 

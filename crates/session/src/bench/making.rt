@@ -6,7 +6,7 @@ ghost use Rattle.session.specs.Benches.{Fresh, taped, gapped, wheeled, lending_c
 use crate::answer::Answer;
 use crate::bench::{Bench, Lending, Recorded};
 use crate::narrow::{narrowed, size};
-use calls::call::TapeSizes;
+use asked::call::TapeSizes;
 use recording::gapped::GappedTape;
 use recording::refusal::{TapeRefusal, WheelRefusal};
 use recording::tape::Tape;
@@ -89,7 +89,7 @@ impl Bench {
 
     // The recording is this tape from now on; one that is not made leaves the recording that was there.
     pub(crate) fn put_tape(&mut self, made: Result<Tape, TapeRefusal>) -> Answer
-        ensures { (result, self.new) ≡ taped IfOk self.old }
+        ensures { (result, self.new) ≡ taped made self.old }
     {
         match made {
             Ok(tape) => {
@@ -102,7 +102,7 @@ impl Bench {
 
     // The same for a gapped tape.
     pub(crate) fn put_gapped(&mut self, made: Result<GappedTape, TapeRefusal>) -> Answer
-        ensures { (result, self.new) ≡ gapped IfOk self.old }
+        ensures { (result, self.new) ≡ gapped made self.old }
     {
         match made {
             Ok(tape) => {
@@ -115,7 +115,7 @@ impl Bench {
 
     // The same for a wheel.
     pub(crate) fn put_wheel(&mut self, made: Result<Wheel, WheelRefusal>) -> Answer
-        ensures { (result, self.new) ≡ wheeled IfOk self.old }
+        ensures { (result, self.new) ≡ wheeled made self.old }
     {
         match made {
             Ok(wheel) => {

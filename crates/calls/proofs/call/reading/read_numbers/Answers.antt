@@ -1,22 +1,26 @@
-use Rattle.std.proofs.Common.{◌∷◌, vec_items, sym, ap, ◌∙◌, subst}
-use Rattle.lexer.specs.Parts.{parts, rest_parts, Joins}
-use Rattle.calls.specs.Words.{both, numbers}
-use Rattle.calls.proofs.Parting.{before, before_both, rest_shorter}
+use Rattle.std.proofs.Common.{◌≡◌, ◌+◌, drop, Some, vec_items, sym, ap, ◌∙◌, arith}
+use Rattle.calls.specs.Words.{parts, numbers}
+use Rattle.calls.proofs.Parting.{before, before_both, no_numbers, one_number, more_numbers}
 use Rattle.calls.proofs.call.reading.read_numbers.Goals as goal
 
-pub loop-number-smaller : goal.loop-number-smaller
-loop-number-smaller c =
-    let part = c.first_part-part.result in
-    rest_shorter 32 c.loop-number.rest.now part.bytes.now c.in-Some-rest.more.now
-    (subst (Joins 32 c.loop-number.rest.now part.bytes.now) c.in-Some-rest.is c.first_part-part.ensures.whole)
+pub returns-in-default : goal.returns-in-default
+returns-in-default c =
+    let i = c.loop-number.invariant in
+    sym (i.1 ∙ ap (before (vec_items c.loop-number.found)) (no_numbers c.args.line.now c.loop-number.at c.part-end-end.result i.0 (c.part-end-end.ensures.end i.0) c.in-default.ensures))
+
+pub returns-then-end-line : goal.returns-then-end-line
+returns-then-end-line c =
+    let i = c.loop-number.invariant in
+    ap Some c.in-ok-push.ensures.items
+    ∙ sym (i.1 ∙ ap (before (vec_items c.loop-number.found)) (one_number c.args.line.now c.loop-number.at c.part-end-end.result i.0 (c.part-end-end.ensures.end i.0) c.in-Some.number c.in-Some.ensures c.if-end-line.true))
 
 pub loop-number-preserved : goal.loop-number-preserved
 loop-number-preserved c =
-    let found = vec_items c.loop-number.found in
-    let part = c.first_part-part.result in
-    let more = numbers (parts 32 c.in-Some-rest.more.now) in
-    c.loop-number.invariant
-    ∙ ap (λ ws. before found (numbers ws)) (c.first_part-part.ensures.parted ∙ ap (λ r. part.bytes.now ∷ rest_parts 32 r) c.in-Some-rest.is)
-    ∙ ap (λ n. before found (both n more)) (sym c.in-Some.ensures)
-    ∙ before_both found c.in-Some.number more
-    ∙ ap (λ xs. before xs more) (sym c.in_ok-push.ensures.items)
+    let i = c.loop-number.invariant in
+    let e = c.part-end-end.ensures in (
+      omega (arith, e.inside.1 i.0),
+      i.1
+          ∙ ap (before (vec_items c.loop-number.found)) (more_numbers c.args.line.now c.loop-number.at c.part-end-end.result i.0 (e.end i.0) c.in-Some.number c.in-Some.ensures (omega (arith, e.inside.1 i.0)))
+          ∙ before_both (vec_items c.loop-number.found) c.in-Some.number (numbers (parts 32 (drop (c.part-end-end.result + 1) c.args.line.now)))
+          ∙ ap (λ xs. before xs (numbers (parts 32 (drop (c.part-end-end.result + 1) c.args.line.now)))) (sym c.in-ok-push.ensures.items),
+    )

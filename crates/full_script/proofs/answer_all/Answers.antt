@@ -1,6 +1,6 @@
 use Rattle.std.proofs.Common.{subst}
 use Rattle.lexer.specs.Parts.{Joins}
-use Rattle.calls.proofs.Parting.{rest_shorter}
+use Rattle.asked.proofs.Parting.{rest_shorter}
 use Rattle.script.proofs.answer_all.Goals as goal
 
 pub loop-rest-smaller : goal.loop-rest-smaller

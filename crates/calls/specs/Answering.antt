@@ -1,0 +1,30 @@
+-- What each call on a bench answers, and what it leaves of the bench.
+use Rattle.std.specs.Prelude.{◌≡◌, vec_items, Result}
+use Rattle.recording.specs.Made.{TapeMade, GappedMade, WheelMade}
+use Rattle.recording.specs.declared.gapped.GappedTape.{GappedTape}
+use Rattle.recording.specs.declared.refusal.TapeRefusal.{TapeRefusal}
+use Rattle.recording.specs.declared.refusal.WheelRefusal.{WheelRefusal}
+use Rattle.recording.specs.declared.tape.Tape.{Tape}
+use Rattle.recording.specs.declared.wheel.Wheel.{Wheel}
+use Rattle.machine.specs.Tables.{Tables}
+use Rattle.calls.specs.Benches.{taped, gapped, wheeled, lending}
+use Rattle.calls.specs.Checking.{OnRecorded}
+use Rattle.calls.specs.Judgements.{ByForm}
+use Rattle.calls.specs.declared.answer.Answer.{Answer}
+use Rattle.calls.specs.declared.bench.Bench.{Bench}
+use Rattle.calls.specs.declared.call.BenchCall.{BenchCall}
+use Rattle.calls.specs.declared.call.BenchCall.TheVariants as call
+use Rattle.calls.specs.declared.session.Sheet.{Sheet}
+
+-- a tape, a gapped tape and a wheel are made of the numbers, or refused, as their makers say; a check leaves the bench
+-- as it was
+abbrev pub Answers : BenchCall → Sheet → Tables → Bench → Bench → Answer → Type 0
+Answers (call.Tape sizes masks) s m before after a =
+    (r : Result Tape TapeRefusal) × TapeMade sizes.signals sizes.stem sizes.cycle (vec_items masks) r × ((a, after) ≡ taped r before)
+Answers (call.Gapped sizes masks lost) s m before after a =
+    (r : Result GappedTape TapeRefusal) × GappedMade sizes.signals sizes.stem sizes.cycle (vec_items masks) (vec_items lost) r × ((a, after) ≡ gapped r before)
+Answers (call.Wheel teeth gap start) s m before after a =
+    (r : Result Wheel WheelRefusal) × WheelMade teeth gap start r × ((a, after) ≡ wheeled r before)
+Answers (call.Cells n) s m before after a = (a, after) ≡ lending n before
+Answers call.Judge s m before after a = ByForm s before after a
+Answers (call.Check back rows) s m before after a = OnRecorded before.recorded m (vec_items rows) back a × (after ≡ before)
