@@ -25,7 +25,7 @@ impl fmt::Write for Page {
 impl Page {
     // The page that a value prints.
     pub(crate) fn printed<D: fmt::Display + Drop>(value: D) -> Result<Page, fmt::Error>
-        ensures { IfOk result (λ p. IfSome (output value) (λ bs. page_text p ≡ bs)) }
+        ensures { IfOk result (λ p. IfSome (D.output value) (λ bs. page_text p ≡ bs)) }
     {
         let empty = Page {
             bytes: [0; SIZE],

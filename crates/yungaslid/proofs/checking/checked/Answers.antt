@@ -11,31 +11,31 @@ use Rattle.yungaslid.specs.Checks.{Checks, refused, unchecked, checked}
 use Rattle.yungaslid.proofs.Opened.{faulty_at, ruled_at}
 use Rattle.yungaslid.proofs.checking.checked.Goals as goal
 
-pub returns-in-err-names : goal.returns-in-err-names
-returns-in-err-names c =
-    let p = err_from_is_err_and c.from-residual.result c.from-residual.ensures.1 in
-    rw (p.1, p.2) (refused _ (misnamed _ c.in-err-names.ensures))
+pub returns-in_err-names : goal.returns-in_err-names
+returns-in_err-names c =
+    let p = err_from_is_err_and c.from_residual.result c.from_residual.ensures.1 in
+    rw (p.1, p.2) (refused _ (misnamed _ c.in_err-names.ensures))
 
-pub returns-in-err-tape : goal.returns-in-err-tape
-returns-in-err-tape c =
-    let p = err_from_is_err_and c.from-residual-in-err-tape.result c.from-residual-in-err-tape.ensures.1 in
-    rw (p.1, p.2) (refused _ (untaped _ c.in-ok-names.ensures.1 c.in-err-tape.ensures))
+pub returns-in_err-tape : goal.returns-in_err-tape
+returns-in_err-tape c =
+    let p = err_from_is_err_and c.from_residual-in_err-tape.result c.from_residual-in_err-tape.ensures.1 in
+    rw (p.1, p.2) (refused _ (untaped _ c.in_ok-names.ensures.1 c.in_err-tape.ensures))
 
-pub returns-in-err-sheet : goal.returns-in-err-sheet
-returns-in-err-sheet c =
-    let p = err_from_is_err_and c.from-residual-in-err-sheet.result c.from-residual-in-err-sheet.ensures.1 in
-    let made = c.in-ok-tape.ensures in
+pub returns-in_err-sheet : goal.returns-in_err-sheet
+returns-in_err-sheet c =
+    let p = err_from_is_err_and c.from_residual-in_err-sheet.result c.from_residual-in_err-sheet.ensures.1 in
+    let made = c.in_ok-tape.ensures in
     rw (p.1, p.2)
-    (refused _ (faulty_at _ _ _ c.in-ok-names.names c.in-ok-names.ensures made.0 _ c.in-err-sheet.ensures))
+    (refused _ (faulty_at _ _ _ c.in_ok-names.names c.in_ok-names.ensures made.0 _ c.in_err-sheet.ensures))
 
-pub returns-in-err-accepting : goal.returns-in-err-accepting
-returns-in-err-accepting c =
-    let p = err_from_is_err_and c.from-residual-in-err-accepting.result c.from-residual-in-err-accepting.ensures.1 in
-    let made = c.in-ok-tape.ensures in
+pub returns-in_err-accepting : goal.returns-in_err-accepting
+returns-in_err-accepting c =
+    let p = err_from_is_err_and c.from_residual-in_err-accepting.result c.from_residual-in_err-accepting.ensures.1 in
+    let made = c.in_ok-tape.ensures in
     rw (p.1, p.2)
-    (unchecked _ (sealed_lines c.in-ok-sheet.sheet) made.0
-    (ruled_at _ _ _ c.in-ok-names.names c.in-ok-names.ensures made.0 c.in-ok-sheet.sheet c.in-ok-sheet.ensures)
-    (transport (λ i. run.Answer two (λ x. x) (c.translate.ensures.filled i) (made.1 i) c.args.rows.now c.args.back (Err c.in-err-accepting.field-0.0)) c.in-err-accepting.ensures))
+    (unchecked _ (sealed_lines c.in_ok-sheet.sheet) made.0
+    (ruled_at _ _ _ c.in_ok-names.names c.in_ok-names.ensures made.0 c.in_ok-sheet.sheet c.in_ok-sheet.ensures)
+    (transport (λ i. run.Answer two (λ x. x) (c.translate.ensures.filled i) (made.1 i) c.args.rows.now c.args.back (Err c.in_err-accepting.field-0.0)) c.in_err-accepting.ensures))
 
 bit : (b : Bool) → cond {A = ℕ} b 1 0 ≡ bool_byte b
 bit true = refl
@@ -43,9 +43,9 @@ bit false = refl
 
 pub returns : goal.returns
 returns c =
-    let made = c.in-ok-tape.ensures in
-    let b = c.in-ok-accepting.accepting in
+    let made = c.in_ok-tape.ensures in
+    let b = c.in_ok-accepting.accepting in
     subst (λ v. Checks c.args.names.now c.args.rule.now c.args.signals c.args.stem c.args.cycle c.args.masks.now c.args.rows.now c.args.back (answered v)) (bit b)
-    (checked b (sealed_lines c.in-ok-sheet.sheet) made.0
-    (ruled_at _ _ _ c.in-ok-names.names c.in-ok-names.ensures made.0 c.in-ok-sheet.sheet c.in-ok-sheet.ensures)
-    (transport (λ i. run.Answer two (λ x. x) (c.translate.ensures.filled i) (made.1 i) c.args.rows.now c.args.back (Ok b)) c.in-ok-accepting.ensures))
+    (checked b (sealed_lines c.in_ok-sheet.sheet) made.0
+    (ruled_at _ _ _ c.in_ok-names.names c.in_ok-names.ensures made.0 c.in_ok-sheet.sheet c.in_ok-sheet.ensures)
+    (transport (λ i. run.Answer two (λ x. x) (c.translate.ensures.filled i) (made.1 i) c.args.rows.now c.args.back (Ok b)) c.in_ok-accepting.ensures))

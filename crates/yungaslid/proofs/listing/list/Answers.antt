@@ -9,27 +9,27 @@ use Rattle.yungaslid.specs.Opening.{misnamed}
 use Rattle.yungaslid.proofs.Opened.{faulty_at, ruled_at}
 use Rattle.yungaslid.proofs.listing.list.Goals as goal
 
-pub returns-in-err-names : goal.returns-in-err-names
-returns-in-err-names c =
-    let p = err_from_is_err_and c.from-residual.result c.from-residual.ensures.1 in
-    rw (p.1, p.2) (refused _ (misnamed _ c.in-err-names.ensures) refl)
+pub returns-in_err-names : goal.returns-in_err-names
+returns-in_err-names c =
+    let p = err_from_is_err_and c.from_residual.result c.from_residual.ensures.1 in
+    rw (p.1, p.2) (refused _ (misnamed _ c.in_err-names.ensures) refl)
 
-pub returns-in-err-sheet : goal.returns-in-err-sheet
-returns-in-err-sheet c =
-    let p = err_from_is_err_and c.from-residual-in-err-sheet.result c.from-residual-in-err-sheet.ensures.1 in
+pub returns-in_err-sheet : goal.returns-in_err-sheet
+returns-in_err-sheet c =
+    let p = err_from_is_err_and c.from_residual-in_err-sheet.result c.from_residual-in_err-sheet.ensures.1 in
     rw (p.1, p.2)
-    (refused _ (faulty_at _ _ _ c.in-ok-names.names c.in-ok-names.ensures tt _ c.in-err-sheet.ensures) refl)
+    (refused _ (faulty_at _ _ _ c.in_ok-names.names c.in_ok-names.ensures tt _ c.in_err-sheet.ensures) refl)
 
-pub returns-in-err-page : goal.returns-in-err-page
-returns-in-err-page c =
-    let p = err_from_is_err_and c.from-residual-in-err-page.result c.from-residual-in-err-page.ensures.1 in
+pub returns-in_err-page : goal.returns-in_err-page
+returns-in_err-page c =
+    let p = err_from_is_err_and c.from_residual-in_err-page.result c.from_residual-in_err-page.ensures.1 in
     rw (p.1, p.2)
-    (unlisted _ (ruled_at _ _ _ c.in-ok-names.names c.in-ok-names.ensures tt c.in-ok-sheet.sheet c.in-ok-sheet.ensures) refl)
+    (unlisted _ (ruled_at _ _ _ c.in_ok-names.names c.in_ok-names.ensures tt c.in_ok-sheet.sheet c.in_ok-sheet.ensures) refl)
 
 pub returns : goal.returns
 returns c =
-    let e : c.text-text.result.now ≡ listing (sealed_lines c.in-ok-sheet.sheet) =
-    c.text-text.ensures ∙ c.in-ok-page.ensures ∙ ap tables_text c.translate.ensures.filled in
+    let e : c.text-text.result.now ≡ listing (sealed_lines c.in_ok-sheet.sheet) =
+    c.text-text.ensures ∙ c.in_ok-page.ensures ∙ ap tables_text c.translate.ensures.filled in
     subst (λ l. Lists c.args.names.now c.args.rule.now c.args.out.now c.put.new.out (answered (length l))) (sym e)
-    (listed _ (ruled_at _ _ _ c.in-ok-names.names c.in-ok-names.ensures tt c.in-ok-sheet.sheet c.in-ok-sheet.ensures)
+    (listed _ (ruled_at _ _ _ c.in_ok-names.names c.in_ok-names.ensures tt c.in_ok-sheet.sheet c.in_ok-sheet.ensures)
     (c.put.ensures ∙ ap (λ l. over l c.args.out.now) e))
