@@ -1,9 +1,8 @@
 -- What names and a rule text are found to be.
-use Rattle.std.proofs.Common.{◌≡◌, ℕ, List, [], length, Ok, Err, Result, sym, subst}
-use Rattle.lexer.specs.Names.{Good, Opened, known, line_of, names_of}
+use Rattle.std.proofs.Common.{ℕ, List, [], Ok, Err, sym, subst}
+use Rattle.lexer.specs.Names.{Opened, known, names_of}
 use Rattle.lexer.specs.declared.names.Names.{Names}
 use Rattle.sheet.specs.Sheets.{sealed_lines}
-use Rattle.sheet.specs.declared.line.Line.{Line}
 use Rattle.sheet.specs.declared.sealed.Sealed.{Sealed}
 use Rattle.text.specs.declared.fault.Fault.{Fault}
 use Rattle.text.specs.Reading.{FirstFault, Fitting}

@@ -1,5 +1,5 @@
 -- Lines have the same values on a word and on its values told as cells.
-use Rattle.std.proofs.Common.{◌≡◌, ℕ, ◌<◌, List, length, sym, refl, ap, ◌∙◌}
+use Rattle.std.proofs.Common.{◌≡◌, ℕ, List, sym, refl, ap, ◌∙◌}
 use Rattle.recording.specs.Kinds.{three}
 use Rattle.recording.specs.Word.{Word, meant}
 use Rattle.recording.specs.declared.truth.Ternary.{Ternary}

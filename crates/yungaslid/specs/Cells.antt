@@ -1,5 +1,4 @@
 -- What cells mean.
-use Rattle.std.specs.Prelude.{ℕ}
 use Rattle.recording.specs.declared.truth.Ternary.{Ternary}
 use Rattle.yungaslid.specs.declared.cell.Cell.{Cell}
 use Rattle.yungaslid.specs.Levels.{level, byte}

@@ -104,7 +104,7 @@ fn runs(rt: &impl Abort) {
 }
 
 fn listings(rt: &impl Abort) {
-    let text = b"gate kind a b\n0 sig 0 -\nvar kind a b start\nfair from to\nroot\n0\n";
+    let text = b"gate kind a b\n0 sig 0 -\nvar kind a b start\nfair from to\nroot\n0\n".as_slice();
     let mut out = [7; 64];
     assert_eq!(rt; yungaslid_listing(b"a", b"a", &mut out), answered(63));
     assert!(rt; &out[0..63] == text);

@@ -1,4 +1,3 @@
-use Rattle.std.proofs.Common.{◌≡◌}
 use native.Mathlib.Nat.{sub-zero}
 use Rattle.yungaslid.proofs.page.writing.put.Goals as goal
 
