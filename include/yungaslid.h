@@ -1,9 +1,9 @@
 /* Yungaslid for C: rules over bench signals, translated into symbolic machines, judged on recordings, and runs checked.
 
-   Link libyungaslid.a, which `rt staticlib yungaslid` makes:
+   Link libyungaslid.a, which `rt lib` makes in crates/yungaslid:
 
-       rt staticlib yungaslid
-       cc -std=c11 -Iinclude prog.c target/staticlib/libyungaslid.a -o prog
+       (cd crates/yungaslid && rt lib)
+       cc -std=c11 -Iinclude prog.c crates/yungaslid/out/libyungaslid.a -o prog
 
    Nothing here allocates, keeps a pointer, or has state: each call looks at its arguments, writes to the buffer that
    the caller lends it, and answers. Calls from several threads are fine as long as no two of them write to one buffer
