@@ -1,6 +1,6 @@
 // What a call answers a C caller.
 ghost use Rattle.std.specs.Prelude.{◌≡◌};
-ghost use Rattle.yungaslid.specs.Answers.{answered as answered_as, refused as IsRefused_as, told as told_as};
+ghost use Rattle.yungaslid.specs.Answers.{answered as answered_as, refused as refused_as, told as told_as};
 
 pub mod from;
 
@@ -31,7 +31,7 @@ impl Answer {
     }
 
     pub(crate) fn refused(number: u8, place: Option<usize>) -> Answer
-        ensures { result ≡ IsRefused_as number place }
+        ensures { result ≡ refused_as number place }
     {
         let place = match place {
             Some(place) => place as u64,
