@@ -1,4 +1,4 @@
-use Rattle.std.proofs.Common.{◌≡◌, [], ◌∷◌, ◌++◌, map, vec_items, sym, ap, ◌∙◌, arith}
+use Rattle.std.proofs.Common.{[], ◌∷◌, ◌++◌, map, vec_items, sym, ap, ◌∙◌, arith}
 use mathlib.Core.List.{map-append}
 use Rattle.std.proofs.lemmas.List.{take_more, take_all}
 use Rattle.session.proofs.narrow.narrowed.Goals as goal

@@ -1,9 +1,9 @@
-use Rattle.std.proofs.Common.{◌≡◌, [], ◌∷◌, sym, subst, arith}
+use Rattle.std.proofs.Common.{[], ◌∷◌, sym, subst, arith}
 use Rattle.recording.specs.Made.{tape_word, gapped_word, wheel_word}
 use Rattle.machine.specs.Machines.{tables}
 use Rattle.run.specs.Histories.{ledger_of}
 use Rattle.session.specs.Performing.{OnBench}
-use Rattle.session.proofs.Refilling.{Held, flagged, levelled, on_flags, on_levels}
+use Rattle.session.proofs.Refilling.{flagged, levelled, on_flags, on_levels}
 use Rattle.session.proofs.performing.perform.Goals as goal
 
 pub returns-in-Nothing : goal.returns-in-Nothing

@@ -1,4 +1,4 @@
-use Rattle.std.proofs.Common.{◌≡◌, ◌∷◌, ◌++◌, is_ok, sym, ap, arith}
+use Rattle.std.proofs.Common.{◌∷◌, ◌++◌, is_ok, sym, ap, arith}
 use Rattle.std.proofs.Output.{has_written_append, has_written_of_eq}
 use Rattle.telling.specs.Truths.{truth_text}
 use Rattle.telling.proofs.Spelling.{each_more, each_done}

@@ -1,4 +1,4 @@
-use Rattle.std.proofs.Common.{◌≡◌, ◌^◌, length, sym, ap, ◌∙◌, subst, arith}
+use Rattle.std.proofs.Common.{◌≡◌, ◌^◌, length, subst, arith}
 use Rattle.checker.specs.CheckAnswer.{Answer}
 use Rattle.machine.specs.Machines.{tables}
 use Rattle.session.proofs.Sizing.{same_numbers}
