@@ -1,7 +1,7 @@
 use Rattle.std.proofs.Common.{subst}
 use Rattle.lexer.specs.Parts.{Joins}
 use Rattle.asked.proofs.Parting.{rest_shorter}
-use Rattle.script.proofs.answer_all.Goals as goal
+use Rattle.full_script.proofs.answer_all.Goals as goal
 
 pub loop-rest-smaller : goal.loop-rest-smaller
 loop-rest-smaller c =
