@@ -46,7 +46,7 @@ pub(crate) fn take_line<'a>(bytes: &'a [u8], number: usize) -> Result<Taken<'a>,
 pub(crate) fn is_title(line: &[u8]) -> bool
     ensures { Decides result (line.now ≡ title) }
 {
-    line == b"stem cycle rule"
+    line == b"stem cycle rule".as_slice()
 }
 
 // The value of one to three digits.

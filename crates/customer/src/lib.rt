@@ -45,7 +45,7 @@ pub fn first_signal<R: Recording, B: Recording>(
 )
 where
     B::Truth: TwoValued,
-    ensures { 3 ≤ length answers.old → ToldFirst (heard Truth-as-Truth-1.kind Truth-as-Truth-1.means R.Recording.word judged.now) cells.old (slice_index_or answers.new 2 Answer.Done) }
+    ensures { 3 ≤ length answers.old → ToldFirst (heard R.Truth.Truth.kind R.Truth.Truth.means R.Recording.word judged.now) cells.old (slice_index_or answers.new 2 Answer.Done) }
 {
     let calls = [Call::Write(1, 0, 0), Call::Seal, Call::Judge(0)];
     let _ = carry_out(

@@ -1,16 +1,16 @@
 -- An until's value at the steady sample is one pass over a cycle.
-use Rattle.std.proofs.Common.{◌≡◌, ℕ, zero, suc, ◌+◌, ◌-◌, ◌<◌, ◌≤◌, sym, ap, ◌∙◌, subst, ap₂, not-suc-le-zero, add-zero, add-suc, suc-add, arith}
+use Rattle.std.proofs.Common.{◌≡◌, ℕ, zero, suc, ◌+◌, ◌-◌, ◌*◌, ◌<◌, ◌≤◌, length, sym, ap, ◌∙◌, subst, ap₂, not-suc-le-zero, add-zero, add-suc, suc-add, arith}
 use Rattle.recording.specs.Kind.{Kind, AtMost}
 use Rattle.recording.specs.Word.{Word}
 use Rattle.sheet.specs.declared.line.Line.{Line}
 use Rattle.sheet.specs.declared.line.Line.TheVariants.{Const, Signal, Not, And, Or, Next, Until, WeakUntil, Previous, WeakPrevious, Since, WeakSince}
-use Rattle.sheet.specs.Table.{Lower}
+use Rattle.sheet.specs.Table.{line, Lower, pasts}
 use Rattle.meaning.specs.Sheet.{Values, ands, ors, IsUntil, IsAlways, IsWeakUntil, Row, Periodic}
-use Rattle.meaning.specs.Judging.{pass, Future}
+use Rattle.meaning.specs.Judging.{pass, Future, Judged}
 use Rattle.meaning.proofs.Lattice.{at_anti, at_eq, at_refl, at_trans, and_left, and_right, at_and, or_left, or_right, or_at, no_at, at_yes, and_mono, step_more}
 use Rattle.meaning.proofs.Folds.{ands_at, at_ands, ands_fewer, ors_at, and_ors}
 use Rattle.meaning.proofs.OneValue.{until_one}
-use Rattle.meaning.proofs.Period.{n_above, above_n, n_under, under_n}
+use Rattle.meaning.proofs.Period.{n_above, above_n, n_under, under_n, period_below}
 use Rattle.meaning.proofs.Build.{below_all, is_until, until_value}
 
 module _ (K : Kind) where
@@ -150,3 +150,9 @@ module _ (K : Kind) where
     future (WeakPrevious a) low row = tt
     future (Since a b) low row = tt
     future (WeakSince a b) low row = tt
+
+pub judged : (K : Kind) → Judged K
+judged K word lines sheet nam f val k hk =
+    let n : ℕ = length lines in
+    let rep : (a : ℕ) → a < n → Periodic K word.cycle (word.stem + pasts (line lines) n * word.cycle) (f a) = period_below K word (line lines) n sheet nam f val n (omega arith) in
+    future K word k (word.stem + pasts (line lines) n * word.cycle) f (λ a ha. rep a (omega arith)) (f k) (rep k hk) (line lines k) (sheet k hk) (val k hk)

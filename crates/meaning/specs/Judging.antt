@@ -1,10 +1,11 @@
 -- How the values of an until are found in two passes down the samples: what the evaluator rests on.
-use Rattle.std.specs.Prelude.{◌≡◌, ℕ, zero, suc, ◌+◌}
+use Rattle.std.specs.Prelude.{◌≡◌, ℕ, zero, suc, ◌+◌, ◌*◌, ◌<◌, List, length}
 use Rattle.recording.specs.Kind.{Kind}
 use Rattle.recording.specs.Word.{Word}
 use Rattle.sheet.specs.declared.line.Line.{Line}
 use Rattle.sheet.specs.declared.line.Line.TheVariants.{And, Const, Next, Not, Or, Previous, Signal, Since, Until, WeakPrevious, WeakSince, WeakUntil}
-use Rattle.meaning.specs.Sheet.{Values}
+use Rattle.sheet.specs.Table.{line, Sheet, HasSignals, pasts}
+use Rattle.meaning.specs.Sheet.{Values, Valuation}
 
 module _ (K : Kind) where
   -- n samples down to t, from the value z above them
@@ -32,3 +33,9 @@ module _ (K : Kind) where
   Future word (WeakPrevious a) f y S = Unit {0}
   Future word (Since a b) f y S = Unit {0}
   Future word (WeakSince a b) f y S = Unit {0}
+
+  -- every until of a valuation is found so
+  abbrev pub Judged : Type 0
+  Judged =
+      (word : Word K.Value) (lines : List Line) → Sheet lines → HasSignals lines word.signals → (f : ℕ → Values K) → Valuation K word lines f
+      → (k : ℕ) → k < length lines → Future word (line lines k) f (f k) (word.stem + pasts (line lines) (length lines) * word.cycle)

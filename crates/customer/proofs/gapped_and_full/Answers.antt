@@ -4,6 +4,6 @@ use Rattle.customer.proofs.gapped_and_full.Goals as goal
 pub returns : goal.returns
 returns g c =
     record {
-      alike = alike _ _ _ _ _ _ _ _ _ c.carry-out.ensures.story c.carry-out.ensures.law;
-      machine = last_machine _ _ _ _ _ _ _ c.carry-out.ensures.story c.carry-out.ensures.law;
+      alike = alike _ _ _ _ _ _ _ _ _ c.carry_out.ensures.story c.carry_out.ensures.law;
+      machine = last_machine _ _ _ _ _ _ _ c.carry_out.ensures.story c.carry_out.ensures.law;
     }

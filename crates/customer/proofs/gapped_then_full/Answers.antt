@@ -11,5 +11,5 @@ returns c =
     let sheet = c.args.sheet.now in
     let some : 0 < length (sealed_lines sheet) = omega (arith, length_lines sheet.draft, sheet.some) in
     settles two (λ v. v) (sealed_lines sheet) some (c.filling.ensures (sealed_lines sheet) (draft_sheet sheet.draft) some)
-    (gapped_word c.args.gapped.now) (tape_word c.args.full.now) _ _ _ _ c.in-ok-verdict.verdict c.in-ok-written.written.verdict
-    c.in-ok-verdict.ensures c.in-ok-written.ensures.filled
+    (gapped_word c.args.gapped.now) (tape_word c.args.full.now) _ _ _ _ c.in_ok-verdict.verdict c.in_ok-written.written.verdict
+    c.in_ok-verdict.ensures c.in_ok-written.ensures.filled

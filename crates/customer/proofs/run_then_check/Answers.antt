@@ -11,8 +11,8 @@ unreachable-requires g c =
     let lines = sealed_lines s in
     let some : 0 < length lines = omega (arith, length_lines s.draft, s.some) in
     let most : length lines ≤ 64 = omega (arith, length_lines s.draft, s.draft.room) in
-    never_refused g.Truth.Truth.kind g.Truth.Truth.means lines (g.B.Recording.word c.args.recording.now) (draft_sheet s.draft) some most
-    c.args.cells.now c.write-out.new.cells c.args.rows.now c.write-out.new.rows c.in-ok-written.written c.in-ok-written.ensures
+    never_refused g.B.Truth.Truth.kind g.B.Truth.Truth.means lines (g.B.Recording.word c.args.recording.now) (draft_sheet s.draft) some most
+    c.args.cells.now c.write_out.new.cells c.args.rows.now c.write_out.new.rows c.in_ok-written.written c.in_ok-written.ensures
     (tables c.translate.new.machine) c.translate.ensures.filled c.in-Err.field-0 c.in-Err.ensures
 
 pub returns : goal.returns
@@ -21,6 +21,6 @@ returns g c =
     let lines = sealed_lines s in
     let some : 0 < length lines = omega (arith, length_lines s.draft, s.some) in
     let most : length lines ≤ 64 = omega (arith, length_lines s.draft, s.draft.room) in
-    said g.Truth.Truth.kind g.Truth.Truth.means lines (g.B.Recording.word c.args.recording.now) (draft_sheet s.draft) some most
-    c.args.cells.now c.write-out.new.cells c.args.rows.now c.write-out.new.rows c.in-ok-written.written c.in-ok-written.ensures
+    said g.B.Truth.Truth.kind g.B.Truth.Truth.means lines (g.B.Recording.word c.args.recording.now) (draft_sheet s.draft) some most
+    c.args.cells.now c.write_out.new.cells c.args.rows.now c.write_out.new.rows c.in_ok-written.written c.in_ok-written.ensures
     (tables c.translate.new.machine) c.translate.ensures.filled c.in-Ok.accepting c.in-Ok.ensures

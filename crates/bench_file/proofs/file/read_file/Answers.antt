@@ -8,52 +8,52 @@ use Rattle.bench_file.proofs.file.read_file.Goals as goal
 pub returns-then-bytes-gt-LONGEST : goal.returns-then-bytes-gt-LONGEST
 returns-then-bytes-gt-LONGEST c = record { outcome = inl (c.if-bytes-gt-LONGEST.true, refl); exact = exact _ }
 
-pub returns-in-err-top : goal.returns-in-err-top
-returns-in-err-top c =
-    record { outcome = refused_top _ _ _ c.if-bytes-gt-LONGEST.false c.from-residual.ensures.1 c.in-err-top.ensures; exact = exact _ }
+pub returns-in_err-top : goal.returns-in_err-top
+returns-in_err-top c =
+    record { outcome = refused_top _ _ _ c.if-bytes-gt-LONGEST.false c.from_residual.ensures.1 c.in_err-top.ensures; exact = exact _ }
 
-pub read-samples-requires : goal.read-samples-requires
-read-samples-requires c =
-    let t = c.in-ok-top.ensures in
+pub read_samples-requires : goal.read_samples-requires
+read_samples-requires c =
+    let t = c.in_ok-top.ensures in
     let s = t.small in
-    let l = line_of c.in-ok-top.top.names in
+    let l = line_of c.in_ok-top.top.names in
     record {
       few = (omega (arith, s), omega (arith, s), omega (arith, s));
       some = (omega (arith, c.count.ensures, count_some l), omega (arith, c.count.ensures, count_small l));
     }
 
-pub returns-in-err-rest : goal.returns-in-err-rest
-returns-in-err-rest c =
+pub returns-in_err-rest : goal.returns-in_err-rest
+returns-in_err-rest c =
     let ls = lines c.args.bytes.now in
-    let top = c.in-ok-top.top in
-    let t = c.in-ok-top.ensures in
+    let top = c.in_ok-top.top in
+    let t = c.in_ok-top.ensures in
     let n = asked ls top t in
     let k = named ls top c.count.result t c.count.ensures in
-    let b = c.in-err-rest.ensures in
+    let b = c.in_err-rest.ensures in
     let w = wrong_sample ls _ _ _ t.rest n k t.right t.good b.0 b.1.1 in
-    record { outcome = refused_samples _ _ _ _ c.if-bytes-gt-LONGEST.false c.from-residual-in-err-rest.ensures.1 b.1.0 w; exact = exact _ }
+    record { outcome = refused_samples _ _ _ _ c.if-bytes-gt-LONGEST.false c.from_residual-in_err-rest.ensures.1 b.1.0 w; exact = exact _ }
 
 pub returns-then-rest-gt0 : goal.returns-then-rest-gt0
 returns-then-rest-gt0 c =
     let ls = lines c.args.bytes.now in
-    let top = c.in-ok-top.top in
-    let t = c.in-ok-top.ensures in
+    let top = c.in_ok-top.top in
+    let t = c.in_ok-top.ensures in
     let n = asked ls top t in
     let k = named ls top c.count.result t c.count.ensures in
-    let w = wrong_extra ls _ _ _ t.rest n k t.right t.good _ _ c.in-ok-rest.rest.now c.in-ok-rest.ensures c.if-rest-gt0.true in
+    let w = wrong_extra ls _ _ _ t.rest n k t.right t.good _ _ c.in_ok-rest.rest.now c.in_ok-rest.ensures c.if-rest-gt0.true in
     record { outcome = inr (c.if-bytes-gt-LONGEST.false, w); exact = exact _ }
 
 pub returns : goal.returns
 returns c =
     let ls = lines c.args.bytes.now in
-    let top = c.in-ok-top.top in
-    let t = c.in-ok-top.ensures in
+    let top = c.in_ok-top.top in
+    let t = c.in_ok-top.ensures in
     let n = asked ls top t in
     let k = named ls top c.count.result t c.count.ensures in
-    let s = c.in-ok-rest.ensures in
-    let rest = c.in-ok-rest.rest.now in
-    let masks = c.read-samples.new.masks in
-    let lost = c.read-samples.new.lost in
+    let s = c.in_ok-rest.ensures in
+    let rest = c.in_ok-rest.rest.now in
+    let masks = c.read_samples.new.masks in
+    let lost = c.read_samples.new.lost in
     record {
       outcome = (
         record {
@@ -66,7 +66,7 @@ returns c =
           cycle = t.cycle;
           rule = t.rule;
           names = t.names;
-          size = (c.read-samples.auto.masks, c.read-samples.auto.lost);
+          size = (c.read_samples.auto.masks, c.read_samples.auto.lost);
           masks = masks_say ls _ _ _ t.rest n k masks lost rest s;
           lost = lost_say ls _ _ _ t.rest n k masks lost rest s;
         },

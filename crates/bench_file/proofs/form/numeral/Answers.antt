@@ -4,12 +4,12 @@ use Rattle.bench_file.specs.Lines.{value}
 use Rattle.bench_file.proofs.Numerals.{positive, a_digit, no_digit, value_more}
 use Rattle.bench_file.proofs.form.numeral.Goals as goal
 
-pub overflow-mul-value : goal.overflow-mul-value
-overflow-mul-value c = omega (arith, c.loop-digit.invariant.5 (omega arith))
+pub overflow_mul-value : goal.overflow_mul-value
+overflow_mul-value c = omega (arith, c.loop-digit.invariant.5 (omega arith))
 
-pub overflow-add-value : goal.overflow-add-value
-overflow-add-value c =
-    let d = a_digit (get_or c.args.digits.now c.loop-digit.digit-index 0) (sym c.is-ascii-digit.ensures.value ∙ c.if-not-is-ascii-digit.false) in
+pub overflow_add-value : goal.overflow_add-value
+overflow_add-value c =
+    let d = a_digit (get_or c.args.digits.now c.loop-digit.digit-index 0) (sym c.is_ascii_digit.ensures.value ∙ c.if-not-is_ascii_digit.false) in
     omega (arith, c.loop-digit.invariant.5 (omega arith), d)
 
 pub loop-digit-init : goal.loop-digit-init
@@ -17,7 +17,7 @@ loop-digit-init c = (refl, (λ k h. absurd (omega (arith, h))), (λ h. h), (λ h
 
 pub loop-digit-preserved : goal.loop-digit-preserved
 loop-digit-preserved c =
-    let d = a_digit _ (sym c.is-ascii-digit.ensures.value ∙ c.if-not-is-ascii-digit.false) in (
+    let d = a_digit _ (sym c.is_ascii_digit.ensures.value ∙ c.if-not-is_ascii_digit.false) in (
       value_more _ _ _ c.loop-digit-test.true c.loop-digit.invariant.0,
       below_more _ _ c.loop-digit.invariant.1 d,
       (λ h. absurd (omega (arith, h))),
@@ -26,9 +26,9 @@ loop-digit-preserved c =
       (λ h. omega (arith, c.loop-digit.invariant.4 (omega (arith, h)), d)),
     )
 
-pub returns-then-not-is-ascii-digit : goal.returns-then-not-is-ascii-digit
-returns-then-not-is-ascii-digit c n =
-    no_digit _ (sym c.is-ascii-digit.ensures.value ∙ c.if-not-is-ascii-digit.true) (n.digits _ c.loop-digit-test.true)
+pub returns-then-not-is_ascii_digit : goal.returns-then-not-is_ascii_digit
+returns-then-not-is_ascii_digit c n =
+    no_digit _ (sym c.is_ascii_digit.ensures.value ∙ c.if-not-is_ascii_digit.true) (n.digits _ c.loop-digit-test.true)
 
 pub returns : goal.returns
 returns c =

@@ -8,4 +8,4 @@ pub returns : goal.returns
 returns c =
     let f = c.args.file.now in
     let n = sub-zero (f.stem + f.cycle) in
-    transport (λ i. GappedMade (c.count.ensures i) f.stem f.cycle (take (n i) f.masks) (take (n i) f.lost) (Ok c.in-ok-tape.tape)) c.in-ok-tape.ensures
+    transport (λ i. GappedMade (c.count.ensures i) f.stem f.cycle (take (n i) f.masks) (take (n i) f.lost) (Ok c.in_ok-tape.tape)) c.in_ok-tape.ensures
