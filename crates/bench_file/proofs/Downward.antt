@@ -1,17 +1,16 @@
 -- Going down a file: the lines that are right so far, and the first that is wrong.
-use Rattle.std.proofs.Common.{◌≡◌, ℕ, zero, suc, ◌+◌, ◌-◌, ◌<◌, ◌≤◌, Bool, true, false, cond, eqb, ◌≢◌, ◌⊎◌, List, [], ◌∷◌, length, get_or, drop, set, IsErrAnd, Ok, Err, Result, sym, refl, ap, ◌∙◌, subst, inl, inr, arith, get_or-set_other, get_or-set_same, Bor, below_more}
-use Rattle.std.proofs.lemmas.List.{drop-drop, length-drop, get_or-drop, take_all}
+use Rattle.std.proofs.Common.{◌≡◌, ℕ, zero, suc, ◌+◌, ◌<◌, ◌≤◌, ◌≢◌, List, [], ◌∷◌, length, get_or, drop, set, IsErrAnd, Err, Result, sym, refl, ap, ◌∙◌, subst, arith, get_or-set_other, get_or-set_same, Bor, below_more}
+use Rattle.std.proofs.lemmas.List.{length-drop}
 use Rattle.std.proofs.lemmas.Result.{err_from_is_err_and}
 use Rattle.lexer.specs.declared.names.NamesRefusal.{NamesRefusal}
-use Rattle.lexer.specs.Names.{Good, spaced, names_of}
-use Rattle.lexer.specs.Parts.{parts, on_first}
+use Rattle.lexer.specs.Names.{Good}
 use Rattle.lexer.proofs.Pieces.{drop_first, drop_next}
 use Rattle.bench_file.specs.declared.file.Top.{Top}
 use Rattle.bench_file.specs.declared.refusal.FileRefusal.{FileRefusal}
 use Rattle.bench_file.specs.declared.refusal.FileRefusal.TheVariants.{Form, Naming}
-use Rattle.bench_file.specs.Files.{lines, line, Ended, IsRight, FirstWrong, needed, samples, signals}
-use Rattle.bench_file.specs.Lines.{title, IsHeader, IsSample, mask_of, lost_of}
-use Rattle.bench_file.specs.Steps.{TopOf, SampleAt, SampleWrong, SamplesOf, SamplesRight}
+use Rattle.bench_file.specs.Files.{lines, line, IsRight, FirstWrong}
+use Rattle.bench_file.specs.Lines.{title, IsHeader, IsSample}
+use Rattle.bench_file.specs.Steps.{TopOf, SampleAt, SampleWrong, SamplesOf}
 use Rattle.bench_file.proofs.Marks.{parts_some}
 
 -- lines 0 to 2, where they stand at the front

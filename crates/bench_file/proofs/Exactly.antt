@@ -1,5 +1,5 @@
 -- A file gets one refusal at most, and a bench file none.
-use Rattle.std.proofs.Common.{◌≡◌, ℕ, ◌<◌, ◌≤◌, ◌⊎◌, List, [], length, sym, refl, ap, ◌∙◌, inl, inr, arith}
+use Rattle.std.proofs.Common.{◌≡◌, ℕ, ◌<◌, ◌≤◌, ◌⊎◌, List, length, sym, refl, ap, ◌∙◌, inl, inr, arith}
 use Rattle.lexer.specs.declared.names.NamesRefusal.{NamesRefusal}
 use Rattle.lexer.specs.declared.names.NamesRefusal.TheVariants.{Malformed}
 use Rattle.lexer.specs.Names.{Good}

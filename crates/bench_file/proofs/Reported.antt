@@ -14,8 +14,7 @@ use Rattle.bench_file.specs.declared.file.BenchFile.{BenchFile}
 use Rattle.bench_file.specs.declared.outcome.Refused.{Refused}
 use Rattle.bench_file.specs.declared.outcome.Report.{Report}
 use Rattle.bench_file.specs.Files.{lines, line, samples, signals, InForm, Says}
-use Rattle.bench_file.specs.Lines.{IsNumeral, value, stem_of, cycle_of, mask_of, lost_of}
-use Rattle.bench_file.specs.Outcomes.{refused_judging}
+use Rattle.bench_file.specs.Lines.{IsNumeral, value, stem_of, cycle_of}
 use Rattle.bench_file.specs.Reporting.{FitsFile, Taped, Told}
 use Rattle.bench_file.specs.Reports.{Sampled, FitsTape, Recorded, word, names, Unjudged, Judged, Reports, unjudged, judged}
 

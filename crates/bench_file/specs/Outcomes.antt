@@ -1,5 +1,5 @@
 -- A refusal by its number and its place, whatever it comes from.
-use Rattle.std.specs.Prelude.{ℕ, Some, None, Option}
+use Rattle.std.specs.Prelude.{Some, None}
 use Rattle.recording.specs.Refusals.{tape_number}
 use Rattle.recording.specs.declared.refusal.TapeRefusal.{TapeRefusal}
 use Rattle.meaning.specs.Refusals.{number_of}

@@ -1,6 +1,6 @@
 -- What is reported of a bench file: for every sequence of bytes one report or one refusal. Checks go down the file, then
 -- come the tape, the rule text, and judging.
-use Rattle.std.specs.Prelude.{◌≡◌, ℕ, ◌+◌, ◌*◌, ◌<◌, ◌≤◌, List, [], length, Ok, Err, Result, slice_index}
+use Rattle.std.specs.Prelude.{◌≡◌, ℕ, ◌+◌, ◌*◌, ◌<◌, List, [], length, Ok, Err, Result, slice_index}
 use Rattle.recording.specs.Gapped.{gapped}
 use Rattle.recording.specs.Kinds.{three}
 use Rattle.recording.specs.Tape.{Fits}
@@ -10,7 +10,7 @@ use Rattle.recording.specs.declared.truth.Ternary.{Ternary}
 use Rattle.sheet.specs.declared.line.Line.{Line}
 use Rattle.sheet.specs.Table.{HasSignals}
 use Rattle.lexer.specs.Names.{names_of}
-use Rattle.meaning.specs.Sheet.{Values, Valuation, rule_of as last_line}
+use Rattle.meaning.specs.Sheet.{Values, rule_of as last_line}
 use Rattle.meaning.specs.Verdict.{horizon}
 use Rattle.meaning.specs.declared.refusal.Refusal.{Refusal}
 use Rattle.meaning.specs.declared.refusal.Refusal.TheVariants.{NoSignal, TooFewCells}

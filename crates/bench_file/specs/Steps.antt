@@ -1,5 +1,5 @@
 -- What the parts of the file reader answer.
-use Rattle.std.specs.Prelude.{◌≡◌, ℕ, ◌+◌, ◌^◌, ◌<◌, ◌≤◌, List, [], ◌∷◌, length, drop, Some, None, Ok, Err, Option, Result, slice_index}
+use Rattle.std.specs.Prelude.{◌≡◌, ℕ, ◌+◌, ◌^◌, ◌<◌, ◌≤◌, List, ◌∷◌, length, drop, Some, None, Ok, Err, Option, Result, slice_index}
 use Rattle.std.specs.Borrow.{Bor}
 use Rattle.lexer.specs.Names.{Good, line_of}
 use Rattle.bench_file.specs.declared.file.Top.{Top}

@@ -21,8 +21,9 @@ fn refused(rt: &impl Abort, bytes: &[u8], number: u8, place: Option<usize>) -> R
 fn sample(rt: &impl Abort, bytes: &[u8], t: usize, mask: u32, lost: u32) -> Result<(), Fail> {
     let file = read_file(bytes)?;
     assert!(rt; t < 1998);
-    assert_eq!(rt; file.masks[t], mask);
-    assert_eq!(rt; file.lost[t], lost);
+    let (has, lacks) = (file.masks[t], file.lost[t]);
+    assert_eq!(rt; has, mask);
+    assert_eq!(rt; lacks, lost);
     Ok(())
 }
 

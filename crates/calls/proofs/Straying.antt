@@ -1,5 +1,5 @@
 -- Rows and the number of the row that comes again, where they are past 64 bits.
-use Rattle.std.proofs.Common.{◌≡◌, ℕ, ◌-◌, ◌^◌, ◌<◌, ◌≤◌, min, Bool, List, length, get_or, None, Ok, Err, Option, Result, Vec, sym, subst, arith, pow_mono}
+use Rattle.std.proofs.Common.{◌≡◌, ℕ, ◌-◌, ◌^◌, ◌≤◌, min, Bool, List, length, None, Ok, Err, Option, Result, Vec, sym, subst, arith, pow_mono}
 use Rattle.std.specs.declared.alloc.Global.{Global}
 use Rattle.recording.proofs.Bits.{small_within}
 use Rattle.recording.specs.Kind.{Kind}

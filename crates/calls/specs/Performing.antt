@@ -1,11 +1,8 @@
 -- What a call does to a session, told from the ledger of its sheet: a call that the form does not have is turned away
 -- and changes nothing.
-use Rattle.std.specs.Prelude.{◌≡◌, ℕ, List}
-use Rattle.sheet.specs.declared.line.Line.{Line}
 use Rattle.sheet.specs.Ledger as ledger
 use Rattle.sheet.specs.Ledger.{Ledger, fed}
 use Rattle.sheet.specs.Sheets.{drafted, shut}
-use Rattle.machine.specs.Machines.{tables}
 use Rattle.machine.specs.Tables.{Tables}
 use Rattle.machine.specs.Translation.{translate}
 use Rattle.calls.specs.declared.answer.Answer.{Answer}

@@ -1,5 +1,5 @@
 -- Which call a line of a script is: a word that names the call, and the numbers that it takes, parted by one space.
-use Rattle.std.specs.Prelude.{ℕ, ◌+◌, ◌/◌, min, Bool, true, false, cond, List, [], ◌∷◌, length, take, drop, Some, None, vec_items, codes, Option, Vec, ◌==◌, nat_le, slice_index}
+use Rattle.std.specs.Prelude.{ℕ, ◌+◌, ◌/◌, min, cond, List, [], ◌∷◌, length, take, drop, Some, None, vec_items, codes, Option, Vec, ◌==◌, nat_le, slice_index}
 use Rattle.std.specs.Str.{bytes_eq}
 use Rattle.std.specs.declared.alloc.Global.{Global}
 use Rattle.calls.specs.declared.call.BenchCall.{BenchCall}

@@ -1,5 +1,5 @@
 -- Going over the rows of a run, from moment to moment.
-use Rattle.std.proofs.Common.{◌≡◌, ℕ, zero, suc, ◌+◌, ◌-◌, ◌%◌, ◌<◌, ◌≤◌, Bool, true, false, cond, not, ◌&&◌, ◌||◌, ltb, leb, ◌⊎◌, ◌↔◌, List, length, get_or, replicate, Decides, sym, refl, ap, ◌∙◌, subst, ap₂, inl, inr, true≢false, not-suc-le-zero, add-one, arith}
+use Rattle.std.proofs.Common.{◌≡◌, ℕ, zero, suc, ◌+◌, ◌<◌, ◌≤◌, Bool, true, false, cond, not, ◌&&◌, ◌||◌, ltb, leb, List, length, get_or, replicate, Decides, sym, refl, ap, ◌∙◌, subst, ap₂, inl, inr, true≢false, not-suc-le-zero, add-one, arith}
 use mathlib.Core.Bool.{false≢true}
 use native.Mathlib.Decide.{dec_lt}
 use Rattle.std.proofs.lemmas.Bool.{ltb-true, lt-ltb, leb-true, le-leb, and_parts, and_from, or_cases, or_left, or_right}
@@ -16,7 +16,7 @@ use Rattle.checker.specs.CheckAnswer.{Shape, Accepted}
 use Rattle.laws.specs.Checks.{HasGateSignals, Turns, Evaluates, Comes, Passes}
 use Rattle.checker.specs.Moments.{listed, MomentAt, gates_from, bits_from, is_met}
 use Rattle.laws.specs.Runs.{Bits, Reads, Starts, Equation, Met, after, row_bits}
-use Rattle.machine.specs.Tables.{Tables, Wired, gate_at, variable_at, pair_at, gate_fits, variable_fits, pair_fits}
+use Rattle.machine.specs.Tables.{Tables, Wired, gate_at, variable_at, pair_at, variable_fits, pair_fits}
 use Rattle.laws.proofs.AsBits.{bits_of as as_bits}
 use Rattle.laws.proofs.BitRuns.{gate_bit, bit_read}
 use Rattle.laws.proofs.Checking.{check_decides}

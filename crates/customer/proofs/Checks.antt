@@ -1,5 +1,5 @@
 -- The run check takes every run that was written out.
-use Rattle.std.proofs.Common.{◌≡◌, ℕ, zero, suc, ◌+◌, ◌-◌, ◌*◌, ◌%◌, ◌<◌, ◌≤◌, min, Bool, false, ◌↔◌, List, [], ◌∷◌, length, get_or, take, Ok, Err, Decides, sym, refl, ap, ◌∙◌, subst, arith, length-take}
+use Rattle.std.proofs.Common.{◌≡◌, ℕ, zero, suc, ◌-◌, ◌%◌, ◌<◌, ◌≤◌, Bool, false, List, [], ◌∷◌, length, get_or, take, Ok, Err, sym, refl, ap, ◌∙◌, subst, arith, length-take}
 use native.Mathlib.Nat.{mod_self}
 use Rattle.std.proofs.lemmas.List.{get_or-take}
 use Rattle.recording.specs.Kind.{Kind}
@@ -8,7 +8,7 @@ use Rattle.recording.specs.Word.{Word, meant}
 use Rattle.sheet.specs.declared.line.Line.{Line}
 use Rattle.sheet.specs.declared.line.Line.TheVariants.{Const, Signal, Not, And, Or, Next, Until, WeakUntil, Previous, WeakPrevious, Since, WeakSince}
 use Rattle.sheet.specs.Table.{line, pasts, Named, HasSignals, Sheet}
-use Rattle.meaning.specs.Sheet.{rule_of, Holds}
+use Rattle.meaning.specs.Sheet.{rule_of}
 use Rattle.meaning.specs.Verdict.{steady, horizon}
 use Rattle.meaning.proofs.Rows.{few_samples, pasts_below}
 use Rattle.machine.specs.declared.gate.Gate.{Gate}
@@ -18,8 +18,8 @@ use Rattle.machine.specs.Translation.{used, size, gates_of, made_gates, first, p
 use Rattle.machine.proofs.Joins.{joined_find}
 use Rattle.machine.proofs.Numbers.{counted, gate_counts, gate_is}
 use Rattle.laws.specs.Checks.{Names, HasGateSignals}
-use Rattle.laws.specs.Laws.{TheValues, written_out}
-use Rattle.laws.specs.Runs.{Bits, Accepts, row_at, row_bits, endless}
+use Rattle.laws.specs.Laws.{written_out}
+use Rattle.laws.specs.Runs.{Accepts, row_at, row_bits, endless}
 use Rattle.laws.proofs.Endless.{row_in}
 use Rattle.checker.specs.declared.refusal.CheckRefusal.{CheckRefusal}
 use Rattle.checker.specs.declared.refusal.CheckRefusal.TheVariants.{NoSignal, BadShape, StrayBit}

@@ -1,7 +1,6 @@
 -- The first signal.
-use Rattle.std.proofs.Common.{◌≡◌, ℕ, zero, suc, ◌+◌, ◌*◌, ◌<◌, ◌≤◌, List, [], ◌∷◌, length, get_or, take, Ok, Err, Result, sym, refl, ap, ◌∙◌, subst, one-mul, zero-mul, arith, take_all, get_or-take}
+use Rattle.std.proofs.Common.{◌≡◌, ℕ, zero, suc, ◌+◌, ◌*◌, ◌≤◌, List, [], ◌∷◌, length, get_or, take, Ok, Err, Result, sym, ap, ◌∙◌, subst, one-mul, zero-mul, arith, take_all, get_or-take}
 use Rattle.recording.specs.Word.{Word}
-use Rattle.sheet.specs.declared.line.Line.{Line}
 use Rattle.sheet.specs.declared.line.Line.TheVariants.{Signal}
 use Rattle.sheet.specs.Ledger.{Ledger, start}
 use Rattle.sheet.specs.Table.{HasSignals}

@@ -1,11 +1,11 @@
 -- Gapped recordings and full ones, and the last machine.
-use Rattle.std.proofs.Common.{◌≡◌, ℕ, suc, ◌-◌, ◌<◌, ◌≤◌, ◌↔◌, List, length, get_or, take, Ok, Err, sym, refl, ap, ◌∙◌, subst, subst₂, arith}
+use Rattle.std.proofs.Common.{◌≡◌, ℕ, ◌<◌, ◌≤◌, ◌↔◌, List, length, take, Ok, Err, sym, ap, ◌∙◌, subst, subst₂, arith}
 use Rattle.recording.specs.Kind.{Kind}
 use Rattle.recording.specs.Kinds.{three}
 use Rattle.recording.specs.Word.{Word, meant}
 use Rattle.recording.specs.declared.truth.Ternary.{Ternary}
 use Rattle.sheet.specs.declared.line.Line.{Line}
-use Rattle.sheet.specs.Ledger.{Ledger, Shut}
+use Rattle.sheet.specs.Ledger.{Ledger}
 use Rattle.meaning.specs.Sheet.{Holds, rule_of}
 use Rattle.meaning.specs.Verdict.{Filled}
 use Rattle.laws.specs.Laws.{OnWords, Settled, Settles, Fills}
@@ -13,7 +13,7 @@ use Rattle.laws.specs.Runs.{HasAcceptingRun}
 use Rattle.machine.specs.Tables.{Tables}
 use Rattle.machine.specs.Translation.{translate}
 use Rattle.run.specs.declared.answer.Answer.{Answer}
-use Rattle.run.specs.declared.answer.Answer.TheVariants.{Verdict, Run, NoRecording}
+use Rattle.run.specs.declared.answer.Answer.TheVariants.{Verdict, Run}
 use Rattle.run.specs.declared.call.Call.{Call}
 use Rattle.run.specs.declared.call.Call.TheVariants.{Translate, Judge, WriteOut}
 use Rattle.run.specs.declared.writing.Written.{Written}

@@ -1,5 +1,5 @@
 -- What is told of the first signal.
-use Rattle.std.specs.Prelude.{◌≡◌, ℕ, ◌+◌, ◌≤◌, List, length}
+use Rattle.std.specs.Prelude.{◌≡◌, ◌+◌, ◌≤◌, List, length}
 use Rattle.run.specs.declared.answer.Answer.{Answer}
 use Rattle.run.specs.declared.answer.Answer.TheVariants.{Line, Done, Refused, Verdict, Run, NotWhile, NoRecording}
 use Rattle.run.specs.Story.{Heard, On}

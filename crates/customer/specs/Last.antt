@@ -1,7 +1,6 @@
 -- What the machine place is after a translation.
 use Rattle.std.specs.Prelude.{◌≡◌, ℕ, suc, ◌↔◌, List, length, take, slice_index_or}
 use Rattle.recording.specs.Kind.{Kind}
-use Rattle.recording.specs.Word.{Word}
 use Rattle.sheet.specs.declared.line.Line.{Line}
 use Rattle.sheet.specs.Ledger.{Ledger}
 use Rattle.laws.specs.Laws.{OnWords}

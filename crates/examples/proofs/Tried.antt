@@ -1,8 +1,8 @@
 -- The worked examples, by computing the valuation that every other equals.
 use mathlib.Core.Bool.{true, false}
-use mathlib.Core.Path.{◌≡◌, refl, sym, ◌∙◌, ap, subst}
-use mathlib.Core.Logic.{◌⊎◌, inl, inr, ◌↔◌}
-use mathlib.Core.List.{List, [], ◌∷◌}
+use mathlib.Core.Path.{◌≡◌, refl, sym, ◌∙◌, subst}
+use mathlib.Core.Logic.{inl, inr, ◌↔◌}
+use mathlib.Core.List.{List}
 use Prim.Native.Nat.{ℕ, zero, suc, ◌+◌, ◌≤◌, ◌<◌}
 use native.Mathlib.Nat.{add-zero, zero-add, add-suc, suc-add, not-suc-le-zero}
 use native.Mathlib.Omega.{arith}
@@ -15,12 +15,12 @@ use Rattle.recording.specs.declared.truth.Ternary.TheVariants.{Lost, Yes}
 use Rattle.sheet.specs.declared.line.Line.{Line}
 use Rattle.sheet.specs.Table.{line, Lower, Named, Sheet, HasSignals}
 use Rattle.meaning.specs.Logic.{Says}
-use Rattle.meaning.specs.Sheet.{Values, Valuation, Holds}
+use Rattle.meaning.specs.Sheet.{Values, Holds}
 use Rattle.meaning.proofs.Build.{exists, build, put, row_value, until_value, always_value}
 use Rattle.meaning.proofs.OneValue.{unique}
 use Rattle.meaning.proofs.Reading.{reads_as_logic}
 use Rattle.laws.specs.Laws.{TheValues, Fills}
-use Rattle.examples.specs.Worked.{On, with_both, until_rule, weak_rule, first_tape, second_tape, lost_tape, not_weak, not_until, next_weak, previous_rule, either_way, both_signs, WorkedExamples}
+use Rattle.examples.specs.Worked.{On, until_rule, weak_rule, first_tape, second_tape, lost_tape, not_weak, previous_rule, either_way, both_signs, WorkedExamples}
 
 -- P of each of n numbers from k on, one by one
 abbrev Each : (ℕ → Type 0) → ℕ → ℕ → Type 0

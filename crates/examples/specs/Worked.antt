@@ -1,8 +1,8 @@
 -- Worked examples, from the meanings alone. crank is signal 0, oil signal 1.
-use Rattle.std.specs.Prelude.{◌≡◌, Bool, true, false, List, [], ◌∷◌, ℕ, ◌≤◌, ◌<◌, length}
+use Rattle.std.specs.Prelude.{◌≡◌, Bool, true, false, List, [], ◌∷◌, ℕ, ◌≤◌, length}
 use Rattle.std.proofs.Common.{lit≤}
 use Rattle.recording.specs.Gapped.{gapped}
-use Rattle.recording.specs.Kind.{Kind, TwoValued}
+use Rattle.recording.specs.Kind.{Kind}
 use Rattle.recording.specs.Kinds.{two, three}
 use Rattle.recording.specs.Tape.{tape}
 use Rattle.recording.specs.Wheel.{wheel}
@@ -14,7 +14,6 @@ use Rattle.sheet.specs.declared.line.Line.TheVariants.{Signal, Not, And, Or, Nex
 use Rattle.sheet.specs.Table.{HasSignals}
 use Rattle.meaning.specs.Sheet.{Values}
 use Rattle.meaning.specs.Verdict.{horizon}
-use Rattle.machine.specs.declared.gate.Pair.{Pair}
 use Rattle.machine.specs.declared.gate.Variable.TheVariants as variable
 use Rattle.laws.specs.Laws.{TheValues, Fills}
 use Rattle.machine.specs.Translation.{translate}

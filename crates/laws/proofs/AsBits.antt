@@ -1,12 +1,11 @@
 -- Reading a two-valued kind as bits keeps every row.
-use Rattle.std.proofs.Common.{◌≡◌, ℕ, zero, suc, ◌+◌, ◌-◌, ◌<◌, ◌≤◌, Bool, true, false, not, ◌&&◌, ◌||◌, ◌⊎◌, List, sym, refl, ap, ◌∙◌, subst, ap₂, subst₂, inl, inr, true≢false, arith}
+use Rattle.std.proofs.Common.{◌≡◌, ℕ, zero, suc, ◌-◌, ◌<◌, Bool, true, false, not, ◌&&◌, ◌||◌, ◌⊎◌, sym, refl, ap, ◌∙◌, subst, ap₂, inl, inr}
 use Rattle.recording.specs.Kind.{Kind, AtMost, TwoValued}
 use Rattle.recording.specs.Kinds.{two}
 use Rattle.recording.specs.Word.{Word, meant}
 use Rattle.sheet.specs.declared.line.Line.{Line}
 use Rattle.sheet.specs.declared.line.Line.TheVariants.{Const, Signal, Not, And, Or, Next, Until, WeakUntil, Previous, WeakPrevious, Since, WeakSince}
-use Rattle.sheet.specs.Table.{line}
-use Rattle.meaning.specs.Sheet.{Values, ands, ors, reach, since, before, IsUntil, IsAlways, IsWeakUntil, Row, Valuation}
+use Rattle.meaning.specs.Sheet.{Values, ands, ors, reach, since, before, IsUntil, IsAlways, IsWeakUntil, Row}
 use Rattle.laws.proofs.Neutrals.{no_and, yes_and, yes_or, no_or, not_yes, not_no}
 
 module _ (K : Kind) (only : TwoValued K) where

@@ -1,7 +1,5 @@
 -- What a line's own gate does, and that it bounds the line's value.
-use Rattle.std.proofs.Common.{◌≡◌, ℕ, zero, suc, ◌+◌, ◌-◌, ◌<◌, ◌≤◌, Bool, true, false, not, ◌&&◌, ◌||◌, ◌⊎◌, sym, refl, ap, ◌∙◌, subst, ap₂, subst₂, inl, inr, true≢false, not-suc-le-zero, add-zero, add-suc, suc-add, zero-add, add-one, arith}
-use mathlib.Core.Path.{fun_ext}
-use mathlib.Core.Bool.{false≢true}
+use Rattle.std.proofs.Common.{◌≡◌, ℕ, zero, suc, ◌+◌, Bool, true, false, not, ◌&&◌, ◌||◌, sym, refl, ap, ◌∙◌, ap₂, inl, inr, add-zero, add-suc, suc-add, add-one, arith}
 use Rattle.std.proofs.lemmas.Bool.{and_parts, and_from, or_cases, or_left, or_right}
 use Rattle.recording.specs.Kind.{AtMost}
 use Rattle.recording.specs.Kinds.{two}
@@ -11,7 +9,7 @@ use Rattle.sheet.specs.declared.line.Line.TheVariants.{Const, Signal, Not, And, 
 use Rattle.meaning.specs.Sheet.{Values, ands, since, before, constant, IsUntil, IsAlways, IsWeakUntil, Row}
 use Rattle.meaning.proofs.Period.{n_above, above_n, n_under, under_n, since_zero, since_carries, weak_carries}
 use Rattle.laws.specs.Runs.{Often}
-use Rattle.machine.specs.Signs.{Sign, plus, minus, opposite}
+use Rattle.machine.specs.Signs.{Sign, plus, minus}
 use Rattle.laws.proofs.Bits.{Bound, bound_plus, bound_minus, by_plus, by_minus, bound_same, bound_eq, not_bound, and_bound, or_bound, Unrolls, comes, until_claims, weak_claims, weak_comes}
 use Rattle.laws.proofs.Reading.{up, at_most, reaches_until}
 use Rattle.machine.proofs.Signing.{Operands}

@@ -1,5 +1,5 @@
 -- Runs on a word of bits, with each gate as an equation; and runs on a word of a two-valued kind read so.
-use Rattle.std.proofs.Common.{◌≡◌, ℕ, suc, ◌<◌, Bool, true, not, ◌&&◌, ◌||◌, ◌↔◌, length, sym, ap, ◌∙◌}
+use Rattle.std.proofs.Common.{◌≡◌, ℕ, suc, ◌<◌, Bool, not, ◌&&◌, ◌||◌, length, sym, ◌∙◌}
 use Rattle.recording.specs.Kind.{Kind, TwoValued}
 use Rattle.recording.specs.Word.{Word}
 use Rattle.machine.specs.declared.gate.Gate.{Gate}

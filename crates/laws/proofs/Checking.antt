@@ -1,16 +1,15 @@
 -- Finitely many rows pass exactly when the endless run that they stand for is accepting.
-use Rattle.std.proofs.Common.{◌≡◌, ℕ, zero, suc, ◌+◌, ◌-◌, ◌*◌, ◌/◌, ◌%◌, ◌<◌, ◌≤◌, Bool, true, false, not, ◌&&◌, ◌||◌, ltb, ◌⊎◌, ◌↔◌, length, sym, refl, ap, ◌∙◌, subst, ap₂, inl, inr, not-suc-le-zero, arith}
+use Rattle.std.proofs.Common.{◌≡◌, ℕ, zero, suc, ◌+◌, ◌-◌, ◌*◌, ◌/◌, ◌<◌, ◌≤◌, Bool, true, false, not, ◌&&◌, ◌||◌, ltb, ◌⊎◌, ◌↔◌, length, sym, ap, ◌∙◌, subst, ap₂, inl, inr, not-suc-le-zero, arith}
 use Rattle.std.proofs.lemmas.Nat.{div-add-mod'}
 use Rattle.std.proofs.lemmas.Bool.{ltb-true, and_parts}
 use Rattle.recording.specs.Kind.{Kind}
 use Rattle.recording.specs.Word.{Word}
 use Rattle.machine.specs.declared.gate.Gate.{Gate}
 use Rattle.machine.specs.declared.gate.Gate.TheVariants as gate
-use Rattle.machine.specs.declared.gate.Pair.{Pair}
 use Rattle.machine.specs.declared.gate.Variable.{Variable}
 use Rattle.machine.specs.declared.gate.Variable.TheVariants as variable
 use Rattle.laws.specs.Checks.{Names, HasGateSignals, Turns, Passes}
-use Rattle.laws.specs.Runs.{Bits, Reads, Starts, Equation, IsRun, Accepting, Accepts, after, row_at, endless}
+use Rattle.laws.specs.Runs.{Bits, Reads, Starts, Equation, Accepting, Accepts, after, row_at, endless}
 use Rattle.machine.specs.Tables.{Tables, Wired, gate_at, variable_at, pair_at, gate_fits, variable_fits, pair_fits}
 use Rattle.laws.proofs.Behave.{same_bit}
 use Rattle.laws.proofs.Endless.{row_in, row_low, row_repeats, row_same, row_times, row_back}

@@ -1,7 +1,6 @@
 -- The run that shows the lines' values is a fair run, whose gates show them too.
-use Rattle.std.proofs.Common.{◌≡◌, ℕ, zero, suc, ◌+◌, ◌-◌, ◌*◌, ◌<◌, ◌≤◌, Bool, true, false, cond, not, ◌&&◌, ◌||◌, ◌⊎◌, List, [], ◌∷◌, ◌++◌, length, get_or, replicate, sym, refl, ap, ◌∙◌, subst, ap₂, subst₂, inl, inr, true≢false, not-suc-le-zero, add-zero, arith}
+use Rattle.std.proofs.Common.{◌≡◌, ℕ, zero, suc, ◌+◌, ◌-◌, ◌*◌, ◌<◌, ◌≤◌, Bool, true, false, cond, not, ◌&&◌, ◌||◌, ◌⊎◌, List, [], ◌∷◌, length, get_or, replicate, sym, refl, ap, ◌∙◌, subst, ap₂, subst₂, inl, inr, true≢false, not-suc-le-zero, add-zero, arith}
 use mathlib.Core.Path.{fun_ext}
-use mathlib.Core.Bool.{false≢true}
 use lib.ListN.{length-replicate}
 use Rattle.std.proofs.lemmas.Bool.{or_cases}
 use Rattle.recording.specs.Kinds.{two}
@@ -13,10 +12,8 @@ use Rattle.meaning.specs.Sheet.{Values, Periodic, ands, before, IsUntil, IsWeakU
 use Rattle.meaning.proofs.Build.{is_always, always_value}
 use Rattle.meaning.proofs.OneValue.{always_one}
 use Rattle.meaning.proofs.Period.{period_below}
-use Rattle.machine.specs.declared.gate.Gate.{Gate}
 use Rattle.machine.specs.declared.gate.Gate.TheVariants as gate
 use Rattle.machine.specs.declared.gate.Pair.{Pair}
-use Rattle.machine.specs.declared.gate.Variable.{Variable}
 use Rattle.machine.specs.declared.gate.Variable.TheVariants as variable
 use Rattle.laws.specs.Laws.{shown}
 use Rattle.laws.specs.Runs.{Bits, Starts, Equation, Often, Fair}

@@ -1,5 +1,5 @@
 -- Filling in lost values keeps what is settled.
-use Rattle.std.proofs.Common.{◌≡◌, ℕ, zero, suc, ◌+◌, ◌-◌, ◌*◌, ◌<◌, ◌≤◌, Bool, true, false, ◌⊎◌, List, length, sym, refl, ap, ◌∙◌, subst, subst₂, inl, inr, not-suc-le-zero, arith}
+use Rattle.std.proofs.Common.{◌≡◌, ℕ, zero, suc, ◌+◌, ◌-◌, ◌*◌, ◌<◌, ◌≤◌, true, false, List, length, sym, refl, ap, ◌∙◌, subst, subst₂, not-suc-le-zero, arith}
 use Rattle.recording.specs.Kind.{Kind, AtMost}
 use Rattle.recording.specs.Kinds.{both, either, other, three}
 use Rattle.recording.specs.Word.{Word}
@@ -11,7 +11,7 @@ use Rattle.sheet.specs.Table.{line, Lower, Sheet, HasSignals, pasts}
 use Rattle.meaning.specs.Sheet.{Values, ands, ors, reach, since, before, IsUntil, IsAlways, IsWeakUntil, Row, Valuation, Periodic}
 use Rattle.meaning.proofs.Build.{until_value, always_value, is_until, is_always}
 use Rattle.meaning.proofs.Folds.{ors_at, at_ands}
-use Rattle.meaning.proofs.Lattice.{at_anti, at_eq, at_trans, and_left, no_at, at_yes}
+use Rattle.meaning.proofs.Lattice.{at_anti, at_eq, at_trans, no_at, at_yes}
 use Rattle.meaning.proofs.OneValue.{until_one, always_one}
 use Rattle.meaning.proofs.Period.{above_n, under_n, period_below}
 use Rattle.laws.specs.Laws.{Settles, Fills}

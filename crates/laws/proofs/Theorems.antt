@@ -1,10 +1,9 @@
 -- The laws of the translation.
-use Rattle.std.proofs.Common.{◌≡◌, ℕ, zero, suc, ◌+◌, ◌-◌, ◌*◌, ◌<◌, Bool, true, false, ◌⊎◌, ◌↔◌, List, length, sym, refl, ap, ◌∙◌, subst, inl, inr, true≢false, arith}
+use Rattle.std.proofs.Common.{◌≡◌, ℕ, zero, suc, ◌<◌, Bool, true, false, ◌↔◌, List, length, sym, refl, ap, ◌∙◌, inl, inr, arith}
 use mathlib.Core.Bool.{false≢true}
-use Rattle.recording.specs.Kind.{Kind, AtMost, TwoValued}
+use Rattle.recording.specs.Kind.{Kind, TwoValued}
 use Rattle.recording.specs.Kinds.{two, three}
 use Rattle.recording.specs.Word.{Word}
-use Rattle.recording.specs.declared.truth.Ternary.{Ternary}
 use Rattle.sheet.specs.declared.line.Line.{Line}
 use Rattle.sheet.specs.declared.line.Line.TheVariants.{Const, Signal, Not, And, Or, Next, Until, WeakUntil, Previous, WeakPrevious, Since, WeakSince}
 use Rattle.sheet.specs.Table.{line, Sheet, HasSignals}
@@ -12,7 +11,7 @@ use Rattle.meaning.specs.Sheet.{Values, Valuation, Holds, Row, constant, rule_of
 use Rattle.meaning.specs.Verdict.{steady, horizon}
 use Rattle.meaning.proofs.Build.{exists}
 use Rattle.meaning.proofs.OneValue.{unique}
-use Rattle.laws.specs.Laws.{TheValues, Always, Exact, Between, Bounds, own, shown, Shows, WrittenRun, CheckDecides, Fills, Filling}
+use Rattle.laws.specs.Laws.{TheValues, Always, Exact, Between, Bounds, own, shown, Shows, WrittenRun, CheckDecides, Filling}
 use Rattle.laws.specs.Runs.{Bits, Fair, IsRun, Accepting, Accepts, HasAcceptingRun, endless}
 use Rattle.machine.specs.Signs.{Sign, plus, minus}
 use Rattle.machine.specs.Translation.{has, used, memory, place, name, translate}

@@ -1,6 +1,5 @@
 -- A periodic sequence is told by its stem and one cycle; so is the run that shows a valuation.
-use Rattle.std.proofs.Common.{◌≡◌, ℕ, zero, suc, ◌+◌, ◌-◌, ◌*◌, ◌%◌, ◌<◌, ◌≤◌, Bool, true, false, cond, ◌&&◌, ◌||◌, T, ltb, ◌⊎◌, List, [], ◌∷◌, ◌++◌, length, sym, refl, ap, ◌∙◌, subst, ap₂, subst₂, inl, inr, not-suc-le-zero, add-zero, mod-lt, mod-eq_of_lt, suc-add, arith, lt→ltb}
-use mathlib.Core.Path.{fun_ext}
+use Rattle.std.proofs.Common.{◌≡◌, ℕ, zero, suc, ◌+◌, ◌-◌, ◌*◌, ◌<◌, ◌≤◌, Bool, true, false, ◌&&◌, ◌||◌, ap, ◌∙◌, suc-add, arith}
 use native.Mathlib.Decide.{dec_lt}
 use Rattle.recording.specs.Kinds.{two}
 use Rattle.recording.specs.Word.{Word}
@@ -11,7 +10,7 @@ use Rattle.meaning.specs.Sheet.{Values, Periodic, before, Row}
 use Rattle.meaning.proofs.Period.{period_below, row_period, carries_periodic}
 use Rattle.laws.specs.Laws.{shown}
 use Rattle.laws.specs.Runs.{Bits, endless, row_at}
-use Rattle.machine.specs.Translation.{used, memory, name}
+use Rattle.machine.specs.Translation.{name}
 use Rattle.laws.proofs.Behave.{row_behaves}
 use Rattle.laws.proofs.Endless.{row_in, row_same}
 

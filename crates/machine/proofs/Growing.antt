@@ -1,5 +1,5 @@
 -- One line more in a work.
-use Rattle.std.proofs.Common.{◌≡◌, ℕ, suc, ◌+◌, ◌-◌, ◌*◌, ◌<◌, ◌≤◌, Bool, true, false, cond, ◌⊎◌, List, [], ◌∷◌, length, get_or, set, sym, refl, ap, ◌∙◌, subst, inl, inr, add-one, arith, get_or-set_other, get_or-set_same}
+use Rattle.std.proofs.Common.{◌≡◌, ℕ, ◌+◌, ◌-◌, ◌<◌, ◌≤◌, Bool, true, false, cond, List, [], ◌∷◌, length, get_or, set, sym, refl, ap, ◌∙◌, subst, inl, inr, add-one, arith, get_or-set_other, get_or-set_same}
 use Rattle.sheet.specs.declared.line.Line.{Line}
 use Rattle.sheet.specs.declared.line.Line.TheVariants.{Const, Signal, Not, And, Or, Next, Until, WeakUntil, Previous, WeakPrevious, Since, WeakSince}
 use Rattle.sheet.specs.Table.{line, Lower, Sheet}
@@ -10,8 +10,8 @@ use Rattle.machine.specs.declared.signs.Signs.{Signs}
 use Rattle.machine.specs.declared.work.Work.{Work}
 use Rattle.machine.specs.Building.{parts_to, Built}
 use Rattle.machine.specs.Signs.{Sign, plus, minus}
-use Rattle.machine.specs.Translation.{has, used, size, memory, gates_of, variables_of, one_pair, pairs_of, made_gates, made_variables, first, place, name}
-use Rattle.machine.specs.Working.{Parts, extended, parts, place_in, Room, told, is_used, added}
+use Rattle.machine.specs.Translation.{has, size, memory, gates_of, variables_of, one_pair, pairs_of, first, place, name}
+use Rattle.machine.specs.Working.{Parts, extended, parts, place_in, told, is_used, added}
 use Rattle.machine.proofs.Joins.{below_suc}
 use Rattle.machine.proofs.Numbers.{size_le, memory_le}
 

@@ -1,15 +1,13 @@
 -- Where a used line's gates, its variable and its pair stand in the translation.
-use Rattle.std.proofs.Common.{◌≡◌, ℕ, zero, suc, ◌+◌, ◌-◌, ◌<◌, ◌≤◌, Bool, true, false, cond, List, [], ◌∷◌, ◌++◌, length, get_or, sym, refl, ap, ◌∙◌, subst, ap₂, add-zero, arith}
+use Rattle.std.proofs.Common.{◌≡◌, ℕ, ◌+◌, ◌-◌, ◌<◌, ◌≤◌, Bool, true, false, cond, List, [], ◌∷◌, length, get_or, sym, refl, ap, ◌∙◌, add-zero, arith}
 use Rattle.sheet.specs.declared.line.Line.{Line}
 use Rattle.sheet.specs.declared.line.Line.TheVariants.{Const, Signal, Not, And, Or, Next, Until, WeakUntil, Previous, WeakPrevious, Since, WeakSince}
-use Rattle.machine.specs.declared.gate.Gate.{Gate}
 use Rattle.machine.specs.declared.gate.Gate.TheVariants as gate
 use Rattle.machine.specs.declared.gate.Pair.{Pair}
-use Rattle.machine.specs.declared.gate.Variable.{Variable}
 use Rattle.machine.specs.declared.gate.Variable.TheVariants as variable
-use Rattle.machine.specs.Tables.{Tables, gate_at, variable_at, pair_at, no_pair}
-use Rattle.machine.specs.Translation.{has, used, size, memory, total, joined, gates_of, variables_of, made_gates, made_variables, first, place, name, gate_lists, variable_lists, pair_lists, translation}
-use Rattle.machine.proofs.Joins.{total_le, joined_length, joined_at, joined_find}
+use Rattle.machine.specs.Tables.{gate_at, variable_at, pair_at, no_pair}
+use Rattle.machine.specs.Translation.{used, size, memory, total, joined, gates_of, variables_of, made_gates, made_variables, first, place, name, gate_lists, variable_lists, pair_lists, translation}
+use Rattle.machine.proofs.Joins.{total_le, joined_length, joined_at}
 
 pub size_pos : (y : Line) → 0 < size y
 size_pos (Const v) = omega arith

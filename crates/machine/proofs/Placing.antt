@@ -1,5 +1,5 @@
 -- The tables that a machine place holds.
-use Rattle.std.proofs.Common.{◌≡◌, ℕ, ◌<◌, ◌≤◌, true, false, length, sym, subst, arith}
+use Rattle.std.proofs.Common.{◌≡◌, ℕ, ◌<◌, true, false, length, sym, subst, arith}
 use Rattle.std.proofs.lemmas.List.{get_or-take, length-take-le}
 use Rattle.machine.specs.declared.gate.Gate.TheVariants as gate
 use Rattle.machine.specs.declared.gate.Variable.TheVariants as variable

@@ -1,12 +1,12 @@
 -- Signs go down: a line hands its signs to its operands.
-use Rattle.std.proofs.Common.{◌≡◌, ℕ, zero, suc, ◌+◌, ◌-◌, ◌<◌, ◌≤◌, Bool, true, false, ◌&&◌, ◌||◌, eqb, ◌⊎◌, List, [], ◌∷◌, ◌++◌, sym, refl, ap, ◌∙◌, subst, ap₂, inl, inr, true≢false, not-suc-le-zero, add-zero, add-suc, suc-add, zero-add, arith}
+use Rattle.std.proofs.Common.{◌≡◌, ℕ, zero, suc, ◌+◌, ◌-◌, ◌<◌, ◌≤◌, Bool, true, ◌&&◌, ◌||◌, eqb, ◌⊎◌, sym, refl, ap, ◌∙◌, subst, inl, inr, add-zero, add-suc, suc-add, zero-add, arith}
 use mathlib.Core.Bool.{false≢true}
 use Rattle.sheet.specs.declared.line.Line.{Line}
 use Rattle.sheet.specs.declared.line.Line.TheVariants.{Const, Signal, Not, And, Or, Next, Until, WeakUntil, Previous, WeakPrevious, Since, WeakSince}
 use Rattle.sheet.specs.Table.{Lower}
 use Rattle.std.proofs.lemmas.Bool.{eqb-true, eq-eqb, and_parts, and_from, or_cases, or_left, or_right}
 use Rattle.machine.specs.Signs.{Sign, plus, minus, opposite}
-use Rattle.machine.specs.Translation.{hands, rule_sign, signed, has, used}
+use Rattle.machine.specs.Translation.{hands, signed, has, used}
 
 -- P of each operand of a line with sign s, and the sign that it is given
 abbrev pub Operands : Line → Sign → (ℕ → Sign → Type 0) → Type 0

@@ -1,5 +1,5 @@
 -- The translation's test for signs is right.
-use Rattle.std.proofs.Common.{◌≡◌, ℕ, zero, suc, ◌+◌, ◌-◌, ◌<◌, ◌≤◌, Bool, true, false, ◌&&◌, ◌||◌, eqb, ◌⊎◌, List, length, sym, refl, ap, ◌∙◌, subst, inl, inr, add-zero, add-suc, suc-add, zero-add, arith}
+use Rattle.std.proofs.Common.{◌≡◌, ℕ, zero, suc, ◌+◌, ◌<◌, Bool, true, ◌&&◌, ◌||◌, eqb, ◌⊎◌, List, length, sym, refl, ap, ◌∙◌, subst, inl, inr, zero-add, arith}
 use mathlib.Core.Bool.{false≢true}
 use Rattle.sheet.specs.declared.line.Line.{Line}
 use Rattle.sheet.specs.declared.line.Line.TheVariants.{Const, Signal, Not, And, Or, Next, Until, WeakUntil, Previous, WeakPrevious, Since, WeakSince}
@@ -7,7 +7,7 @@ use Rattle.sheet.specs.Table.{line, Lower, Sheet}
 use Rattle.meaning.specs.Sheet.{rule_of}
 use Rattle.std.proofs.lemmas.Bool.{eqb-true, and_parts, or_cases}
 use Rattle.machine.specs.Signs.{Sign, plus, minus, opposite, HandsOn, HasSign, the_rule, negated, handed_on}
-use Rattle.machine.specs.Translation.{hands, rule_sign, signed, has, SignsAre}
+use Rattle.machine.specs.Translation.{hands, signed, has, SignsAre}
 use Rattle.machine.proofs.Signing.{Operands, either_eq, opposite_twice, closed, rule_plus}
 
 hands_on : (y : Line) (s : Sign) (a : ℕ) (P : ℕ → Sign → Type 0) → Operands y s P → HandsOn y a → P a s

@@ -1,5 +1,5 @@
 -- The tables of a sheet's translation name what is there.
-use Rattle.std.proofs.Common.{◌≡◌, ℕ, zero, suc, ◌+◌, ◌-◌, ◌*◌, ◌<◌, ◌≤◌, Bool, true, false, cond, ◌&&◌, ltb, ◌⊎◌, List, [], ◌∷◌, length, get_or, sym, refl, ap, ◌∙◌, subst, inl, inr, not-suc-le-zero, mul-suc, arith}
+use Rattle.std.proofs.Common.{◌≡◌, ℕ, zero, suc, ◌+◌, ◌-◌, ◌*◌, ◌<◌, ◌≤◌, Bool, true, false, cond, ◌&&◌, ltb, List, [], ◌∷◌, length, get_or, sym, refl, subst, inl, inr, not-suc-le-zero, mul-suc, arith}
 use Rattle.std.proofs.lemmas.Bool.{lt-ltb, and_from, or_cases}
 use Rattle.sheet.specs.declared.line.Line.{Line}
 use Rattle.sheet.specs.declared.line.Line.TheVariants.{Const, Signal, Not, And, Or, Next, Until, WeakUntil, Previous, WeakPrevious, Since, WeakSince}
@@ -8,11 +8,10 @@ use Rattle.meaning.specs.Sheet.{rule_of}
 use Rattle.machine.specs.declared.gate.Gate.{Gate}
 use Rattle.machine.specs.declared.gate.Gate.TheVariants as gate
 use Rattle.machine.specs.declared.gate.Pair.{Pair}
-use Rattle.machine.specs.declared.gate.Variable.{Variable}
 use Rattle.machine.specs.declared.gate.Variable.TheVariants as variable
 use Rattle.machine.specs.Signs.{Sign, plus, minus}
-use Rattle.machine.specs.Tables.{Tables, gate_at, variable_at, pair_at, no_pair, gate_fits, variable_fits, pair_fits, Wired, Bounded}
-use Rattle.machine.specs.Translation.{has, used, size, memory, total, joined, gates_of, variables_of, one_pair, pairs_of, made_gates, made_variables, first, place, name, gate_lists, variable_lists, pair_lists, translation, translate, Sound}
+use Rattle.machine.specs.Tables.{gate_at, variable_at, pair_at, no_pair, gate_fits, variable_fits, pair_fits, Wired, Bounded}
+use Rattle.machine.specs.Translation.{has, used, size, memory, total, joined, gates_of, variables_of, one_pair, pairs_of, made_gates, made_variables, first, place, name, gate_lists, variable_lists, pair_lists, translation, Sound}
 use Rattle.machine.proofs.Joins.{total_le, joined_length, joined_at, joined_find}
 use Rattle.machine.proofs.Numbers.{size_pos, size_le, memory_le, counted, gate_counts, variable_counts, gate_count_is, gate_in, gate_is, variable_in, variable_is, made_pairs}
 use Rattle.machine.proofs.Signing.{Operands, operands_map, closed, used_of, rule_plus}

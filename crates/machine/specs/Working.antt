@@ -1,5 +1,5 @@
 -- What a machine holds while it is filled.
-use Rattle.std.specs.Prelude.{◌≡◌, ℕ, ◌+◌, ◌-◌, ◌*◌, ◌<◌, ◌≤◌, Bool, true, false, cond, ◌||◌, List, [], ◌∷◌, ◌++◌, take, slice_index, slice_index_or}
+use Rattle.std.specs.Prelude.{ℕ, ◌+◌, ◌-◌, ◌*◌, ◌≤◌, Bool, false, cond, ◌||◌, List, [], ◌++◌, take, slice_index, slice_index_or}
 use Rattle.sheet.specs.declared.line.Line.{Line}
 use Rattle.machine.specs.declared.gate.Gate.{Gate}
 use Rattle.machine.specs.declared.gate.Pair.{Pair}

@@ -2,7 +2,6 @@
 use Rattle.std.proofs.Common.{◌≡◌, ℕ, ◌<◌, ◌≤◌, List, length, arith}
 use Rattle.recording.specs.Kind.{Kind, TwoValued}
 use Rattle.sheet.specs.declared.line.Line.{Line}
-use Rattle.sheet.specs.declared.sealed.Sealed.{Sealed}
 use Rattle.sheet.specs.Sheets.{sealed_lines}
 use Rattle.sheet.specs.Table.{Sheet}
 use Rattle.sheet.proofs.Front.{length_lines, draft_sheet}

@@ -1,6 +1,6 @@
 -- The rows that are packed from judged cells are the run that is written out.
-use Rattle.std.proofs.Common.{◌≡◌, ℕ, zero, suc, ◌+◌, ◌-◌, ◌*◌, ◌^◌, ◌<◌, ◌≤◌, true, ◌↔◌, List, length, get_or, take, sym, refl, ap, ◌∙◌, subst, arith}
-use Rattle.std.proofs.lemmas.List.{length-take, length-take-le, get_or-take}
+use Rattle.std.proofs.Common.{◌≡◌, ℕ, zero, suc, ◌^◌, ◌<◌, ◌≤◌, true, ◌↔◌, List, length, get_or, take, sym, refl, ◌∙◌, subst, arith}
+use Rattle.std.proofs.lemmas.List.{length-take, get_or-take}
 use Rattle.recording.specs.Kind.{Kind, TwoValued}
 use Rattle.recording.specs.Word.{Word, meant}
 use Rattle.recording.proofs.Bits.{within_small}
@@ -16,7 +16,6 @@ use Rattle.machine.specs.Translation.{variable_lists, made_variables, translate}
 use Rattle.machine.proofs.Joins.{joined_length}
 use Rattle.machine.proofs.Numbers.{variable_counts}
 use Rattle.laws.proofs.Theorems.{written_law}
-use Rattle.run.specs.declared.writing.Written.{Written}
 use Rattle.run.specs.Packing.{names, in_cells, RowsPacked}
 use Rattle.run.specs.Writing.{WrittenOut}
 

@@ -1,8 +1,8 @@
 -- A row with a bit above all its own.
-use Rattle.std.proofs.Common.{◌≡◌, ℕ, suc, ◌+◌, ◌-◌, ◌*◌, ◌/◌, ◌%◌, ◌^◌, ◌<◌, ◌≤◌, Bool, true, false, cond, eqb, sym, refl, ap, ◌∙◌, ap₂, add-zero, one-mul, arith}
+use Rattle.std.proofs.Common.{◌≡◌, ℕ, suc, ◌+◌, ◌-◌, ◌*◌, ◌/◌, ◌%◌, ◌^◌, ◌<◌, Bool, true, false, cond, eqb, sym, ap, ◌∙◌, add-zero, one-mul, arith}
 use native.Mathlib.Nat.{div-eq_of_lt, add-mul-div_right, add-mul-mod_self_right}
 use lib.Bits.{bit_or}
-use Rattle.std.proofs.lemmas.Nat.{pow_pos, pow-add, pow_below, one_shl, or_comm, or_shifted, shr_high}
+use Rattle.std.proofs.lemmas.Nat.{pow_pos, pow-add, one_shl, or_comm, or_shifted, shr_high}
 use Rattle.recording.specs.Tape.{bit}
 
 pub or_top : (row place : ℕ) → place < 64 → row < 2 ^ place → bit_or row ((1 * 2 ^ place) % 2 ^ 64) ≡ row + 2 ^ place

@@ -1,5 +1,5 @@
 -- The ledger of a sheet over a list of calls.
-use Rattle.std.specs.Prelude.{ℕ, List, Some, None, fold, Option}
+use Rattle.std.specs.Prelude.{List, Some, None, fold, Option}
 use Rattle.sheet.specs.Ledger as ledger
 use Rattle.sheet.specs.Ledger.{Ledger, Form, Drafted, Shut, fed}
 use Rattle.sheet.specs.Sheets.{drafted, shut}

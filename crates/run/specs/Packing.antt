@@ -7,8 +7,7 @@ use Rattle.sheet.specs.Table.{line}
 use Rattle.meaning.specs.Cells.{column}
 use Rattle.meaning.specs.Sheet.{Values, rule_of}
 use Rattle.machine.specs.declared.signs.Signs.{Signs}
-use Rattle.laws.specs.Laws.{Shows, shown}
-use Rattle.laws.specs.Runs.{row_bits}
+use Rattle.laws.specs.Laws.{shown}
 use Rattle.machine.specs.Signs.{Sign}
 use Rattle.machine.specs.Translation.{has, used, memory, name}
 use Rattle.machine.specs.Working.{sign_in}

@@ -1,5 +1,5 @@
 -- How much judging fills on the first of some recordings.
-use Rattle.std.proofs.Common.{◌≡◌, ℕ, ◌<◌, List, [], ◌∷◌, map, length, get_or, ◌∙◌, arith}
+use Rattle.std.proofs.Common.{◌≡◌, ℕ, List, [], ◌∷◌, map, length, get_or, arith}
 use Rattle.recording.specs.Word.{Word}
 use Rattle.sheet.specs.Ledger.{Shut}
 use Rattle.sheet.specs.declared.line.Line.{Line}

@@ -1,5 +1,5 @@
 -- No recording is made of numbers past 32 bits.
-use Rattle.std.proofs.Common.{◌≡◌, ℕ, ◌-◌, ◌^◌, ◌<◌, ◌≤◌, min, List, length, get_or, Some, None, Ok, Err, vec_items, Option, Result, Vec, sym, ap, ◌∙◌, subst, map-id, arith, pow_mono}
+use Rattle.std.proofs.Common.{◌≡◌, ℕ, ◌-◌, ◌^◌, ◌<◌, ◌≤◌, min, List, length, get_or, Some, None, Ok, Err, vec_items, Option, Result, Vec, sym, ◌∙◌, subst, map-id, arith, pow_mono}
 use Rattle.std.specs.declared.alloc.Global.{Global}
 use Rattle.recording.proofs.Bits.{small_within}
 use Rattle.recording.specs.Made.{TapeMade, GappedMade, WheelMade}

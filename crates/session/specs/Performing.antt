@@ -1,6 +1,6 @@
 -- What a call of a script on its sheet answers, and what it leaves of all that is lent: what the library's call does, with
 -- the recording of the bench and the first so many cells and rows.
-use Rattle.std.specs.Prelude.{◌≡◌, ℕ, Bool, List, [], ◌∷◌, ◌++◌, take, drop, vec_items}
+use Rattle.std.specs.Prelude.{◌≡◌, Bool, List, [], ◌∷◌, ◌++◌, take, drop, vec_items}
 use Rattle.recording.specs.Kinds.{two, three}
 use Rattle.recording.specs.Made.{tape_word, gapped_word, wheel_word}
 use Rattle.recording.specs.Word.{Word}

@@ -49,7 +49,7 @@ pub(crate) fn narrowed<T: Narrow>(
     heap: Global,
     numbers: &[u128],
 ) -> Result<Option<Vec<T>>, AllocError>
-    ensures { IfOk result (Narrowed past value numbers.now) }
+    ensures { IfOk result (Narrowed T.past T.value numbers.now) }
 {
     let mut found = Vec::new(heap);
     for n in numbers {

@@ -42,7 +42,7 @@ where
     R::Truth: AmongThree,
     B::Truth: TwoValued + AmongThree,
     ensures ledger { ledger_of result.sheet ≡ next_ledger (ledger_of sheet) (made_as call) }
-    ensures performs { Performs (heard Truth-as-Truth-1.kind Truth-as-Truth-1.means R.Recording.word judged.now) (heard Truth-as-Truth-2.kind Truth-as-Truth-2.means B.Recording.word written.now) Truth-as-AmongThree-1.three Truth-as-AmongThree-2.three lacking lending (ledger_of sheet) call result.answer (lent_of (tables machine.old) cells.old bits.old rows.old) (lent_of (tables machine.new) cells.new bits.new rows.new) }
+    ensures performs { Performs (heard R.Truth.Truth.kind R.Truth.Truth.means R.Recording.word judged.now) (heard B.Truth.Truth.kind B.Truth.Truth.means B.Recording.word written.now) R.Truth.AmongThree.three B.Truth.AmongThree.three lacking lending (ledger_of sheet) call result.answer (lent_of (tables machine.old) cells.old bits.old rows.old) (lent_of (tables machine.new) cells.new bits.new rows.new) }
 {
     let filled = filled_by(&sheet, judged);
     let cell_count = lending.cells.min(cells.len() as u128) as usize;

@@ -30,7 +30,7 @@ pub(crate) fn call_of(call: SheetCall) -> Call
 
 // How much judging fills, where it can be called.
 pub(crate) fn filled_by<R: Recording>(sheet: &Sheet, judged: &[R]) -> Filled
-    ensures { result ≡ filled_on (ledger_of sheet.now) (map word judged.now) }
+    ensures { result ≡ filled_on (ledger_of sheet.now) (map R.word judged.now) }
 {
     match sheet {
         Sheet::Open(_) => Filled {

@@ -1,4 +1,4 @@
-use Rattle.std.proofs.Common.{◌≡◌, length, sym, refl, ap, ◌∙◌, inl, inr, arith}
+use Rattle.std.proofs.Common.{refl, inl, inr, arith}
 use Rattle.lexer.specs.Names.{line_of}
 use Rattle.bench_file.specs.Files.{lines}
 use Rattle.bench_file.proofs.Exactly.{exact}

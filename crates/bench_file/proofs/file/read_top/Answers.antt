@@ -1,4 +1,4 @@
-use Rattle.std.proofs.Common.{◌≡◌, ℕ, List, [], get_or, drop, sym, refl, ap, ◌∙◌, subst, arith}
+use Rattle.std.proofs.Common.{ℕ, List, [], get_or, drop, sym, ap, ◌∙◌, subst, arith}
 use Rattle.lexer.proofs.Naming.{refuted}
 use Rattle.lexer.specs.Names.{Good}
 use Rattle.bench_file.specs.Files.{lines, IsRight}

@@ -1,4 +1,4 @@
-use Rattle.std.proofs.Common.{length, get_or, sym, refl, ap, ◌∙◌, arith, below_more}
+use Rattle.std.proofs.Common.{get_or, sym, refl, ap, ◌∙◌, arith, below_more}
 use Rattle.std.proofs.lemmas.List.{take_all}
 use Rattle.bench_file.specs.Lines.{value}
 use Rattle.bench_file.proofs.Numerals.{positive, a_digit, no_digit, value_more}

@@ -1,4 +1,4 @@
-use Rattle.std.proofs.Common.{◌≡◌, ℕ, ◌<◌, ◌≤◌, length, get_or, take}
+use Rattle.std.proofs.Common.{◌≡◌, ℕ, ◌<◌, ◌≤◌, get_or, take}
 use Rattle.bench_file.specs.Lines.{value}
 use Rattle.bench_file.proofs.form.numeral.Given as goal
 

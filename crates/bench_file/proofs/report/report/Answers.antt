@@ -1,8 +1,8 @@
-use Rattle.std.proofs.Common.{◌≡◌, [], Ok, Err, sym, refl, ap, ◌∙◌, subst}
+use Rattle.std.proofs.Common.{[], refl}
 use mathlib.Core.Path.{transport}
 use Rattle.std.proofs.lemmas.Result.{err_from_is_err_and}
 use Rattle.text.specs.Reading.{FirstFault}
-use Rattle.bench_file.specs.Reports.{out_of_form, no_tape, faulty, Reports}
+use Rattle.bench_file.specs.Reports.{out_of_form, no_tape, faulty}
 use Rattle.bench_file.proofs.Reported.{known_is, small, sampled, not_taped, recorded, told}
 use Rattle.bench_file.proofs.report.report.Goals as goal
 

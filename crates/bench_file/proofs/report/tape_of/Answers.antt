@@ -1,4 +1,4 @@
-use Rattle.std.proofs.Common.{◌≡◌, ℕ, ◌+◌, ◌-◌, length, take, Ok, Err, ap, ◌∙◌, subst}
+use Rattle.std.proofs.Common.{◌+◌, take, Ok}
 use mathlib.Core.Path.{transport}
 use native.Mathlib.Nat.{sub-zero}
 use Rattle.recording.specs.Made.{GappedMade}

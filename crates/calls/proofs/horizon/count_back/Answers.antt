@@ -5,6 +5,6 @@ use Rattle.calls.proofs.horizon.count_back.Goals as goal
 
 pub loop-k-preserved : goal.loop-k-preserved
 loop-k-preserved c = (
-  ap₂ ◌+◌ c.loop-k.invariant.0 c.looks-back-count.ensures ∙ ap (pasts (line c.args.lines.now)) (sym (add-one c.loop-k.k)),
-  omega (arith, past_most (line c.args.lines.now c.loop-k.k), c.loop-k.invariant.1, c.looks-back-count.ensures),
+  ap₂ ◌+◌ c.loop-k.invariant.0 c.looks_back-count.ensures ∙ ap (pasts (line c.args.lines.now)) (sym (add-one c.loop-k.k)),
+  omega (arith, past_most (line c.args.lines.now c.loop-k.k), c.loop-k.invariant.1, c.looks_back-count.ensures),
 )

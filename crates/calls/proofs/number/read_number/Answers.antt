@@ -1,4 +1,4 @@
-use Rattle.std.proofs.Common.{◌≡◌, ◌+◌, ◌-◌, ◌*◌, ◌^◌, min, get_or, sym, ◌∙◌, arith}
+use Rattle.std.proofs.Common.{◌+◌, ◌-◌, ◌*◌, get_or, sym, ◌∙◌, arith}
 use Rattle.calls.proofs.Digits.{no_number, digit_more, value_more, whole_number}
 use Rattle.calls.proofs.number.read_number.Goals as goal
 

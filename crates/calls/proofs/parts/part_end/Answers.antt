@@ -1,4 +1,4 @@
-use Rattle.std.proofs.Common.{◌≡◌, sym, ◌∙◌, arith}
+use Rattle.std.proofs.Common.{◌∙◌, arith}
 use Rattle.calls.proofs.Parting.{parted_here, parted_later, parted_nowhere}
 use Rattle.calls.proofs.parts.part_end.Goals as goal
 

@@ -1,4 +1,4 @@
-use Rattle.std.proofs.Common.{◌≡◌, ◌+◌, ◌≤◌, drop}
+use Rattle.std.proofs.Common.{◌≡◌, ◌+◌, drop}
 use Rattle.calls.specs.Words.{first_part}
 use Rattle.calls.proofs.parts.part_end.Given as goal
 

@@ -1,9 +1,8 @@
-use Rattle.std.proofs.Common.{◌≡◌, ℕ, ◌<◌, Bool, true, false, length, get_or, replicate, sym, refl, ap, ◌∙◌, subst, arith}
+use Rattle.std.proofs.Common.{◌≡◌, false, length, get_or, replicate, sym, refl, ap, ◌∙◌, subst, arith}
 use mathlib.Core.Bool.{false≢true}
 use Rattle.recording.specs.Word.{meant}
 use Rattle.machine.specs.Machines.{tables}
 use Rattle.checker.specs.Moments.{MomentAt}
-use Rattle.laws.specs.Runs.{after}
 use Rattle.laws.proofs.Endless.{after_in}
 use Rattle.checker.proofs.Walking.{Walked, walked_none, walked_more, passes_kept, accepted_passes, accepted_root, accepted_starts, accepted_met, all_accepted, getD_none}
 use Rattle.checker.proofs.check.accepts.Goals as goal

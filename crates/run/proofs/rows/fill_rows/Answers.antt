@@ -1,4 +1,4 @@
-use Rattle.std.proofs.Common.{◌+◌, ◌*◌, ◌≤◌, length, refl, mul-le-mul_right, mul_comm, add-mul, one-mul, arith}
+use Rattle.std.proofs.Common.{◌+◌, ◌*◌, ◌≤◌, length, mul-le-mul_right, mul_comm, add-mul, one-mul, arith}
 use Rattle.run.proofs.Filling.{rows_more}
 use Rattle.run.proofs.rows.fill_rows.Goals as goal
 

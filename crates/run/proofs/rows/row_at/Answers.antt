@@ -1,5 +1,5 @@
-use Rattle.std.proofs.Common.{◌≡◌, ℕ, ◌+◌, ◌≤◌, true, ◌↔◌, sym, ap, ◌∙◌, subst, arith}
-use Rattle.run.specs.Packing.{Packed, names}
+use Rattle.std.proofs.Common.{◌≡◌, ◌+◌, true, ◌↔◌, sym, ◌∙◌, subst, arith}
+use Rattle.run.specs.Packing.{Packed}
 use Rattle.run.proofs.Filling.{packed_more, packed_same}
 use Rattle.run.proofs.rows.row_at.Goals as goal
 use Rattle.run.proofs.rows.row_at.Goals.{then-own-has_variable, else-own-has_variable}

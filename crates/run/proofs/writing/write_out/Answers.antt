@@ -1,8 +1,7 @@
-use Rattle.std.proofs.Common.{◌≡◌, ℕ, ◌<◌, ◌≤◌, List, length, sym, subst, arith}
+use Rattle.std.proofs.Common.{◌<◌, List, length, subst, arith}
 use Rattle.sheet.specs.declared.line.Line.{Line}
 use Rattle.sheet.specs.Sheets.{sealed_lines}
 use Rattle.sheet.specs.Table.{Sheet}
-use Rattle.meaning.specs.Verdict.{horizon}
 use Rattle.run.specs.Packing.{RowsPacked}
 use Rattle.run.proofs.Outcome.{written_is}
 use Rattle.run.proofs.writing.write_out.Goals as goal

@@ -10,12 +10,12 @@ use Rattle.session.proofs.performing.perform_with.Goals as goal
 
 pub returns : goal.returns
 returns g c =
-    let judged = heard g.Truth.Truth-1.kind g.Truth.Truth-1.means g.R.Recording.word c.args.judged.now in
-    let written = heard g.Truth.Truth-2.kind g.Truth.Truth-2.means g.B.Recording.word c.args.written.now in
+    let judged = heard g.R.Truth.Truth.kind g.R.Truth.Truth.means g.R.Recording.word c.args.judged.now in
+    let written = heard g.B.Truth.Truth.kind g.B.Truth.Truth.means g.B.Recording.word c.args.written.now in
     let l = ledger_of c.args.sheet in
     let p = c.args.lending in
     let made = c.perform-stepped in
-    let ledger : ledger_of made.result.sheet ≡ step l (made_as c.args.call) = made.ensures.ledger ∙ ap (step l) c.call-of.ensures in
+    let ledger : ledger_of made.result.sheet ≡ step l (made_as c.args.call) = made.ensures.ledger ∙ ap (step l) c.call_of.ensures in
     let left : Lent g.row.R-Truth.Denot g.row.B-Truth.Denot = lent (tables made.new.machine) made.new.cells made.new.bits made.new.rows in
     let cells = c.args.cells.now in
     let bits = c.args.bits.now in
@@ -27,17 +27,17 @@ returns g c =
         left = left;
         tells =
             subst (λ (q : Call × Lent g.row.R-Truth.Denot g.row.B-Truth.Denot). Tells judged written l.form l q.0 made.result.answer q.1 left)
-            (λ i. (c.call-of.ensures i, lent (tables c.args.machine.now) (take_lent cells p.cells c.min-cell-count.result c.min-cell-count.ensures i) (take_lent bits p.cells c.min-bit-count.result c.min-bit-count.ensures i) (take_lent rows p.rows c.min-row-count.result c.min-row-count.ensures i)))
+            (λ i. (c.call_of.ensures i, lent (tables c.args.machine.now) (take_lent cells p.cells c.min-cell_count.result c.min-cell_count.ensures i) (take_lent bits p.cells c.min-bit_count.result c.min-bit_count.ensures i) (take_lent rows p.rows c.min-row_count.result c.min-row_count.ensures i)))
             made.ensures.tells;
         leaves = λ i.
             lent (tables made.new.machine)
-            (made.new.cells ++ drop_lent cells p.cells c.min-cell-count.result c.min-cell-count.ensures i)
-            (made.new.bits ++ drop_lent bits p.cells c.min-bit-count.result c.min-bit-count.ensures i)
-            (made.new.rows ++ drop_lent rows p.rows c.min-row-count.result c.min-row-count.ensures i);
+            (made.new.cells ++ drop_lent cells p.cells c.min-cell_count.result c.min-cell_count.ensures i)
+            (made.new.bits ++ drop_lent bits p.cells c.min-bit_count.result c.min-bit_count.ensures i)
+            (made.new.rows ++ drop_lent rows p.rows c.min-row_count.result c.min-row_count.ensures i);
         answers =
             c.told.ensures
-            ∙ ap (λ f. told g.Truth.AmongThree-1.three g.Truth.AmongThree-2.three c.args.call f c.args.lacking made.result.answer) c.filled-by-filled.ensures;
+            ∙ ap (λ f. told g.R.Truth.AmongThree.three g.B.Truth.AmongThree.three c.args.call f c.args.lacking made.result.answer) c.filled_by-filled.ensures;
         before = made.ensures.before;
-        after = subst (WhileSealed g.Truth.Truth-1.kind g.Truth.Truth-2.kind) ledger made.ensures.after;
+        after = subst (WhileSealed g.R.Truth.Truth.kind g.B.Truth.Truth.kind) ledger made.ensures.after;
       };
     }

@@ -18,8 +18,8 @@ pub returns-else-judged-eq0 : goal.returns-else-judged-eq0
 returns-else-judged-eq0 g c =
     let word = g.R.Recording.word in
     let lines = sealed_lines c.in-Shut.sealed in
-    let n = c.reach-of.result.samples in
+    let n = c.reach_of.result.samples in
     let is : Filled = record { lines = length c.lines-lines.result.now; samples = n } in
     subst (λ s. is ≡ filled_on (ledger_of s) (map word c.args.judged.now)) (sym c.in-Shut.is)
     (filled_first word _ lines c.lines-lines.ensures.are c.args.judged.now n c.index-judged-0.result c.if-judged-eq0.false
-    (c.reach-of.ensures.samples ∙ ap (λ r. horizon lines (word r)) c.index-judged-0.is))
+    (c.reach_of.ensures.samples ∙ ap (λ r. horizon lines (word r)) c.index-judged-0.is))

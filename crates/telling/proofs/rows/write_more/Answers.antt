@@ -1,4 +1,4 @@
-use Rattle.std.proofs.Common.{◌≡◌, ◌∷◌, ◌++◌, is_ok, sym, ap, arith}
+use Rattle.std.proofs.Common.{◌∷◌, ◌++◌, is_ok, sym, ap, arith}
 use Rattle.std.proofs.Output.{has_written_append, has_written_of_eq}
 use Rattle.telling.specs.Truths.{truth_text}
 use Rattle.telling.proofs.Spelling.{each_more, each_done}
@@ -12,8 +12,8 @@ loop-value-preserved g c =
       iv.0 ++ (32 ∷ truth_text (three x)),
       (λ p.
           let one = iv.1 p in
-          let two = c.write.ensures.shows one.plain (ap is_ok c.in-ok-write.was) in
-          has_written_append _ _ _ _ _ _ one (has_written_of_eq _ _ _ _ _ (ap (λ v. 32 ∷ truth_text v) c.as-ternary.ensures) two)),
+          let two = c.write.ensures.writes one.plain (ap is_ok c.in_ok-write.was) in
+          has_written_append _ _ _ _ _ _ one (has_written_of_eq _ _ _ _ _ (ap (λ v. 32 ∷ truth_text v) c.as_ternary.ensures) two)),
       each_more (λ v. 32 ∷ truth_text (three v)) c.args.values.now c.loop-value.value-index x x iv.0 _ (omega arith) (sym c.value-item.is) iv.2,
     )
 

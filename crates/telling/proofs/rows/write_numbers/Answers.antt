@@ -10,7 +10,7 @@ loop-number-preserved g c =
       iv.0 ++ (decimal n ++ (10 ∷ [])),
       (λ p.
           let one = iv.1 p in
-          has_written_append _ _ _ _ _ _ one (c.writeln.ensures.writes one.plain (ap is_ok c.in-ok-writeln.was))),
+          has_written_append _ _ _ _ _ _ one (c.writeln.ensures.writes one.plain (ap is_ok c.in_ok-writeln.was))),
       each_more (λ k. decimal k ++ (10 ∷ [])) c.args.numbers.now c.loop-number.number-index n 0 iv.0 _ (omega arith) refl iv.2,
     )
 

@@ -1,4 +1,4 @@
-use Rattle.std.proofs.Common.{◌≡◌, suc, ◌+◌, ◌-◌, [], ◌∷◌, ◌++◌, take, is_ok, sym, ap, arith}
+use Rattle.std.proofs.Common.{◌≡◌, suc, ◌+◌, ◌-◌, [], ◌∷◌, ◌++◌, take, is_ok, ap, arith}
 use Rattle.std.proofs.Output.{has_written_append, has_written_of_eq}
 use Rattle.telling.specs.Truths.{row_text}
 use Rattle.telling.proofs.Spelling.{sample_more, samples_done}
@@ -12,8 +12,8 @@ loop-t-preserved g c =
       iv.0 ++ (row_text three (take (c.min-width.result - 0) c.loop-t.rest.now) ++ (10 ∷ [])),
       (λ p.
           let one = iv.1 p in
-          let two = c.write-row.ensures one.plain (ap is_ok c.in-ok-write-row.was) in
-          let next = c.writeln.ensures.writes two.plain (ap is_ok c.in-ok-writeln.was) in
+          let two = c.write_row.ensures one.plain (ap is_ok c.in_ok-write_row.was) in
+          let next = c.writeln.ensures.writes two.plain (ap is_ok c.in_ok-writeln.was) in
           has_written_append _ _ _ _ _ _ one (has_written_append _ _ _ _ _ _ two next)),
       sample_more three c.args.lines _ _ c.min-width.result c.loop-t.rest.now iv.0 _ c.min-width.ensures left iv.2,
     )

@@ -1,4 +1,4 @@
-use Rattle.std.proofs.Common.{◌≡◌, ◌^◌, length, sym, ap, ◌∙◌, subst, arith}
+use Rattle.std.proofs.Common.{◌≡◌, ◌^◌, length, subst, arith}
 use Rattle.checker.specs.CheckAnswer.{Answer}
 use Rattle.machine.specs.Machines.{tables}
 use Rattle.calls.proofs.Sizing.{same_numbers}
@@ -10,20 +10,20 @@ returns-in-Some g c =
     let w = g.R.Recording.word c.args.recording.now in
     let m = tables c.args.machine.now in (
       c.check.result,
-      placed g.Truth.Truth.kind g.Truth.Truth.means m w c.args.rows.now c.args.back c.place.result c.check.result c.place.ensures
-          (subst (λ xs. Answer g.Truth.Truth.kind g.Truth.Truth.means m w xs c.place.result c.check.result)
-          (same_numbers (2 ^ 64) c.args.rows.now _ _ _ c.as-slice.ensures.value c.in-Some.is c.in-ok-rows.ensures)
+      placed g.R.Truth.Truth.kind g.R.Truth.Truth.means m w c.args.rows.now c.args.back c.place.result c.check.result c.place.ensures
+          (subst (λ xs. Answer g.R.Truth.Truth.kind g.R.Truth.Truth.means m w xs c.place.result c.check.result)
+          (same_numbers (2 ^ 64) c.args.rows.now _ _ _ c.as_slice.ensures.value c.in-Some.is c.in_ok-rows.ensures)
           c.check.ensures),
       c.told.ensures,
     )
 
-pub returns-in-ok-blank : goal.returns-in-ok-blank
-returns-in-ok-blank g c =
+pub returns-in_ok-blank-in-None : goal.returns-in_ok-blank-in-None
+returns-in_ok-blank-in-None g c =
     let w = g.R.Recording.word c.args.recording.now in
     let m = tables c.args.machine.now in
-    let size : length c.args.rows.now ≡ length c.as-slice-in-None.result.now = omega (arith, c.as-slice-in-None.ensures.len, c.in-ok-blank.ensures.len) in (
-      c.check-stray.result,
-      placed g.Truth.Truth.kind g.Truth.Truth.means m w c.args.rows.now c.args.back c.place-in-None.result c.check-stray.result c.place-in-None.ensures
-          (c.check-stray.ensures c.args.rows.now size (strays c.args.machine.now c.args.rows.now _ c.in-None.is c.in-ok-rows.ensures)),
+    let size : length c.args.rows.now ≡ length c.as_slice-in-None.result.now = omega (arith, c.as_slice-in-None.ensures.len, c.in_ok-blank-in-None.ensures.len) in (
+      c.check_stray.result,
+      placed g.R.Truth.Truth.kind g.R.Truth.Truth.means m w c.args.rows.now c.args.back c.place-in-None.result c.check_stray.result c.place-in-None.ensures
+          (c.check_stray.ensures c.args.rows.now size (strays c.args.machine.now c.args.rows.now _ c.in-None.is c.in_ok-rows.ensures)),
       c.told-in-None.ensures,
     )

@@ -1,4 +1,4 @@
-use Rattle.std.proofs.Common.{◌≡◌, ◌++◌, length, Ok, Err, sym, refl, ap, ◌∙◌, subst}
+use Rattle.std.proofs.Common.{◌++◌, length, Ok, Err, ap, subst}
 use Rattle.sheet.specs.Sheets.{sealed_lines}
 use Rattle.meaning.specs.Sheet.{rule_of}
 use Rattle.meaning.specs.Verdict.{Verdict}
@@ -14,11 +14,11 @@ returns-in-Ok g c =
       result = Ok c.in-Ok.value;
       cells = c.judge.new.cells;
       verdict =
-          subst (λ xs. Verdict g.Truth.Truth.kind g.Truth.Truth.means lines w (rule_of lines) 0 xs c.judge.new.cells (Ok c.in-Ok.value))
+          subst (λ xs. Verdict g.R.Truth.Truth.kind g.R.Truth.Truth.means lines w (rule_of lines) 0 xs c.judge.new.cells (Ok c.in-Ok.value))
           (take_lent c.args.cells.now c.args.lent c.min-count.result c.min-count.ensures)
           c.in-Ok.ensures;
       leaves = ap (λ xs. c.judge.new.cells ++ xs) (drop_lent c.args.cells.now c.args.lent c.min-count.result c.min-count.ensures);
-      tells = λ i. answer.Values (record { verdict = c.as-ternary.ensures i; lines = length (c.lines.ensures.are i); samples = c.samples-of.ensures i });
+      tells = λ i. answer.Values (record { verdict = c.as_ternary.ensures i; lines = length (c.lines.ensures.are i); samples = c.samples_of.ensures i });
     }
 
 pub returns-in-Err : goal.returns-in-Err
@@ -29,7 +29,7 @@ returns-in-Err g c =
       result = Err c.in-Err.refusal;
       cells = c.judge.new.cells;
       verdict =
-          subst (λ xs. Verdict g.Truth.Truth.kind g.Truth.Truth.means lines w (rule_of lines) 0 xs c.judge.new.cells (Err c.in-Err.refusal))
+          subst (λ xs. Verdict g.R.Truth.Truth.kind g.R.Truth.Truth.means lines w (rule_of lines) 0 xs c.judge.new.cells (Err c.in-Err.refusal))
           (take_lent c.args.cells.now c.args.lent c.min-count.result c.min-count.ensures)
           c.in-Err.ensures;
       leaves = ap (λ xs. c.judge.new.cells ++ xs) (drop_lent c.args.cells.now c.args.lent c.min-count.result c.min-count.ensures);

@@ -1,4 +1,4 @@
-use Rattle.std.proofs.Common.{◌≡◌, ◌-◌, length, sym, ap, ◌∙◌, arith}
+use Rattle.std.proofs.Common.{length, sym, ap, ◌∙◌, arith}
 use native.Mathlib.Nat.{sub_self}
 use Rattle.sheet.specs.Table.{line}
 use Rattle.meaning.specs.Sheet.{rule_of}

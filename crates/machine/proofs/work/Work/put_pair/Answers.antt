@@ -1,6 +1,6 @@
 use Rattle.std.proofs.Common.{cond, [], ◌∷◌, sym, refl, ap, ◌∙◌, arith}
 use Rattle.machine.specs.Working.{parts, extended}
-use Rattle.machine.proofs.Parts.{one_more_pair, extended_none}
+use Rattle.machine.proofs.Parts.{one_more_pair}
 use Rattle.machine.proofs.work.Work.put_pair.Goals as goal
 
 pub returns-then-wanted : goal.returns-then-wanted

@@ -1,7 +1,7 @@
-use Rattle.std.proofs.Common.{◌≡◌, ◌+◌, [], ◌∷◌, sym, refl, ap, ◌∙◌, arith}
+use Rattle.std.proofs.Common.{◌≡◌, ◌+◌, [], ◌∷◌, ap, ◌∙◌, arith}
 use Rattle.machine.specs.declared.gate.Gate.TheVariants as gate
 use Rattle.machine.specs.declared.gate.Variable.TheVariants as variable
-use Rattle.machine.specs.Working.{Parts, parts, extended}
+use Rattle.machine.specs.Working.{parts, extended}
 use Rattle.machine.proofs.Parts.{extended_twice}
 use Rattle.machine.proofs.work.Work.put_since.Goals as goal
 

@@ -5,4 +5,4 @@ use Rattle.session.proofs.bench.Bench.check.Goals as goal
 
 pub returns-in-Turning : goal.returns-in-Turning
 returns-in-Turning c =
-    subst (λ r. IfOk c.check-numbers-in-Turning.result (OnRecorded r (tables c.args.machine.now) c.args.rows.now c.args.back)) (sym c.in-Turning.is) c.check-numbers-in-Turning.ensures
+    subst (λ r. IfOk c.check_numbers-in-Turning.result (OnRecorded r (tables c.args.machine.now) c.args.rows.now c.args.back)) (sym c.in-Turning.is) c.check_numbers-in-Turning.ensures

@@ -8,5 +8,5 @@ pub returns-clause-writes : goal.returns-clause-writes
 returns-clause-writes g c p e =
     let count = c.args.self.now.count in
     has_written_of_eq _ _ _ _ _
-    (ap numbers_text (take_lent c.as-slice-rows.result.now count c.min-count.result c.min-count.ensures ∙ ap (take count) c.as-slice-rows.ensures.value))
-    (c.write-numbers.ensures p e)
+    (ap numbers_text (take_lent c.as_slice-rows.result.now count c.min-count.result c.min-count.ensures ∙ ap (take count) c.as_slice-rows.ensures.value))
+    (c.write_numbers.ensures p e)

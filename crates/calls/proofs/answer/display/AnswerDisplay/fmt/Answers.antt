@@ -4,4 +4,4 @@ use Rattle.calls.specs.Telling.{answer_text}
 use Rattle.calls.proofs.answer.display.AnswerDisplay.fmt.Goals as goal
 
 pub returns-in-NotTwoValued-clause-writes : goal.returns-in-NotTwoValued-clause-writes
-returns-in-NotTwoValued-clause-writes g c p e = has_written_of_eq _ _ _ _ _ (ap answer_text (sym c.in-NotTwoValued.is)) (c.write-in-NotTwoValued.ensures.shows p e)
+returns-in-NotTwoValued-clause-writes g c p e = has_written_of_eq _ _ _ _ _ (ap answer_text (sym c.in-NotTwoValued.is)) (c.write-in-NotTwoValued.ensures.writes p e)

@@ -1,4 +1,4 @@
-use Rattle.std.proofs.Common.{◌≡◌, [], ◌∷◌, ◌++◌, is_ok, codes, decimal, sym, refl, ap, ◌∙◌, append_assoc}
+use Rattle.std.proofs.Common.{[], ◌∷◌, ◌++◌, is_ok, codes, decimal, ap}
 use Rattle.std.proofs.Output.{has_written_append, has_written_of_eq}
 use Rattle.tables.specs.Text.{gate_text, variable_text, pair_text, table_text}
 use Rattle.tables.proofs.printed.display.PrintedDisplay.fmt.Goals as goal
