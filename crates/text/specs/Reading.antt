@@ -1,5 +1,5 @@
 -- What a rule text says: a rule, or its first fault.
-use Rattle.std.specs.Prelude.{◌≡◌, ℕ, ◌+◌, ◌-◌, ◌<◌, ◌≤◌, List, [], ◌++◌, length, get_or, drop, Ok, Err, Result, ◌≢◌, slice_index, slice_index_or, slice_range}
+use Rattle.std.specs.Prelude.{◌≡◌, ℕ, ◌+◌, ◌-◌, ◌<◌, ◌≤◌, List, [], ◌++◌, length, drop, Ok, Err, Result, ◌≢◌, slice_index, slice_index_or, slice_range}
 use Rattle.sheet.specs.declared.line.Line.{Line}
 use Rattle.sheet.specs.declared.refusal.Refusal.{Refusal}
 use Rattle.sheet.specs.declared.refusal.Refusal.TheVariants.{Full}
@@ -28,11 +28,11 @@ Stands text p b = (p < length text) × (slice_index text p ≡ b)
 -- the byte at p cannot begin a unit
 pub record NoUnit (text : List ℕ) (p : ℕ) : Type 0 where
   pub within : p < length text
-  pub digit0 : get_or text p 0 ≡ 48 → ⊥
-  pub digit1 : get_or text p 0 ≡ 49 → ⊥
+  pub digit0 : slice_index text p ≢ 48
+  pub digit1 : slice_index text p ≢ 49
   pub letter : Letter (slice_index text p) → ⊥
   pub prefix : (s : Prefix) → slice_index text p ≢ prefix_sign s
-  pub bracket : get_or text p 0 ≡ 40 → ⊥
+  pub bracket : slice_index text p ≢ 40
 
 -- From the place `at`, inside n levels and after the lines `ls`, where a unit is to stand, this is the first fault of
 -- the text.

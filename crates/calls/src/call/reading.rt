@@ -1,7 +1,7 @@
 // Which call a line of a script is.
 ghost use Rattle.std.specs.Prelude.{◌≡◌, ◌≤◌, length, drop, IfOk};
 ghost use Rattle.std.specs.Str.{bytes_eq};
-ghost use Rattle.calls.specs.Reading.{byte as byte_of, verb_of, alone as Alone_of, writes, sizes_in, tapes, gaps, turns, lends, checks, call_of, items_in, call_on, sheet_verb, bench_verb, said, said_in};
+ghost use Rattle.calls.specs.Reading.{byte as byte_of, verb_of, alone as alone_of, writes, sizes_in, tapes, gaps, turns, lends, checks, call_of, items_in, call_on, sheet_verb, bench_verb, said, said_in};
 ghost use Rattle.calls.specs.Words.{parts, numbers};
 
 use crate::call::{BenchCall, Call, SheetCall, TapeSizes, Verb};
@@ -93,7 +93,7 @@ fn byte(n: u128) -> u8
 
 // A call that takes no number.
 fn alone(call: Call, numbers: &[u128]) -> Option<Call>
-    ensures { said_in result ≡ Alone_of (said call) numbers.now }
+    ensures { said_in result ≡ alone_of (said call) numbers.now }
 {
     if numbers.len() == 0 { Some(call) } else { None }
 }

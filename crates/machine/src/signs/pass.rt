@@ -1,7 +1,7 @@
 // The downward pass: the rule has plus, and each line hands its signs on.
 ghost use Rattle.std.specs.Prelude.{◌≡◌, ℕ, ◌<◌, ◌≤◌, ◌&&◌, ◌||◌, length, ◌==◌};
 ghost use Rattle.sheet.specs.Sheets.{sealed_lines};
-ghost use Rattle.sheet.specs.Table.{line as line_at_lem, Lower, Sheet};
+ghost use Rattle.sheet.specs.Table.{line as line_at, Lower, Sheet};
 ghost use Rattle.meaning.specs.Sheet.{rule_of};
 ghost use Rattle.machine.specs.Signs.{Sign};
 ghost use Rattle.machine.specs.Translation.{hands, has};
@@ -53,7 +53,7 @@ fn hand_on(line: Line, own: Signs, signs: &mut [Signs; 64])
 // The signs of each line, of which the last is the rule.
 pub(crate) fn signs_of(lines: &[Line]) -> [Signs; 64]
     requires { (Sheet lines.now) × ((0 < length lines.now) × (length lines.now ≤ 64)) }
-    ensures { (a : ℕ) (s : Sign) → sign_in result a s ≡ has (line_at_lem lines.now) (length lines.now) (rule_of lines.now) a s }
+    ensures { (a : ℕ) (s : Sign) → sign_in result a s ≡ has (line_at lines.now) (length lines.now) (rule_of lines.now) a s }
 {
     let mut signs = [Signs {
         plus: false,
@@ -72,7 +72,7 @@ pub(crate) fn signs_of(lines: &[Line]) -> [Signs; 64]
 
 /// The signs of each line of a sealed sheet; past the last there are none.
 pub fn signs_in(sheet: &Sealed) -> [Signs; 64]
-    ensures { (a : ℕ) (s : Sign) → sign_in result a s ≡ has (line_at_lem (sealed_lines sheet.now)) (length (sealed_lines sheet.now)) (rule_of (sealed_lines sheet.now)) a s }
+    ensures { (a : ℕ) (s : Sign) → sign_in result a s ≡ has (line_at (sealed_lines sheet.now)) (length (sealed_lines sheet.now)) (rule_of (sealed_lines sheet.now)) a s }
 {
     signs_of(sheet.lines())
 }
