@@ -22,7 +22,7 @@ impl Sizes {
         ensures in_range { IsOk result ↔ InRange signals stem cycle }
         ensures are { IfOk result (AreSizes signals stem cycle) }
     {
-        if signals < 1 || signals > 32 || stem > 256 || cycle < 1 || cycle > 64 {
+        if !(1..=32).contains(&signals) || stem > 256 || !(1..=64).contains(&cycle) {
             return Err(TapeRefusal::BadTape);
         }
         Ok(Sizes {
