@@ -70,7 +70,7 @@ impl TwoValued for bool {
 }
 
 /// The three-valued kind: no, lost, yes rise; and takes the lower, or the higher, not keeps lost.
-#[derive(Clone, Copy, PartialEq, Eq, Debug)]
+#[derive(Clone, Copy, PartialEq, Eq, PartialOrd, Ord, Debug)]
 pub enum Ternary {
     No,
     Lost,
@@ -103,27 +103,11 @@ impl Truth for Ternary {
     }
 
     fn and(self, other: Ternary) -> Ternary {
-        match self {
-            Ternary::No => Ternary::No,
-            Ternary::Lost => match other {
-                Ternary::No => Ternary::No,
-                Ternary::Lost => Ternary::Lost,
-                Ternary::Yes => Ternary::Lost,
-            },
-            Ternary::Yes => other,
-        }
+        self.min(other)
     }
 
     fn or(self, other: Ternary) -> Ternary {
-        match self {
-            Ternary::No => other,
-            Ternary::Lost => match other {
-                Ternary::No => Ternary::Lost,
-                Ternary::Lost => Ternary::Lost,
-                Ternary::Yes => Ternary::Yes,
-            },
-            Ternary::Yes => Ternary::Yes,
-        }
+        self.max(other)
     }
 
     fn not(self) -> Ternary {
