@@ -1,21 +1,19 @@
 -- The lines of a draft, as many as its count, and what the ledger answers and leaves in each case.
-use Rattle.std.proofs.Common.{◌≡◌, ℕ, zero, suc, ◌<◌, Bool, true, false, cond, ◌&&◌, eqb, ltb, List, [], ◌∷◌, map, length, get_or, Some, None, Option, sym, subst, arith, length-take-le, get_or-take}
+use Rattle.std.proofs.Common.{refl, ◌≡◌, ℕ, zero, suc, Bool, true, false, cond, ◌&&◌, eqb, ltb, List, [], ◌∷◌, map, length, get_or, Some, None, Option, subst, arith}
 use Rattle.std.proofs.lemmas.Bool.Decides.{nat_tests}
 use Rattle.sheet.specs.declared.draft.Draft.{Draft}
 use Rattle.sheet.specs.declared.line.Line.{Line}
 use Rattle.sheet.specs.Ledger.{Ledger, Refused, Write, fed, pushed}
 use Rattle.sheet.specs.Sheets.{lines_of}
-use Rattle.sheet.specs.Table.{lines_with, named_line, operands_of, operands, fits, blank, Lower, Sheet}
+use Rattle.sheet.specs.Table.{lines_with, named_line, operands_of, operands, fits, blank, Sheet}
 use Rattle.sheet.proofs.Lowering.{fits_lower}
 
-pub length_lines : (d : Draft) → length (lines_of d) ≡ d.count
-length_lines d = length-take-le d.count d.lines (omega (arith, d.room, d.whole))
+pub length_lines : (d : Draft) → length (lines_of d) ≡ length d.lines.items
+length_lines d = refl
 
 -- the lines of a draft name lower lines
 pub draft_sheet : (d : Draft) → Sheet (lines_of d)
-draft_sheet d k h =
-    let below : k < d.count = omega (arith, length_lines d) in
-    subst (Lower k) (sym (get_or-take d.count d.lines k blank below)) (fits_lower k (get_or d.lines k blank) (d.lower k below))
+draft_sheet d k h = fits_lower k (get_or d.lines.items k blank) (d.lower k h)
 
 -- P of each item of a list
 abbrev All : {A : Type 0} → (A → Type 0) → List A → Type 0

@@ -6,6 +6,7 @@ ghost use Rattle.sheet.specs.Sheets.{lines_of, drafted, written, done};
 use crate::draft::Draft;
 use crate::line::Line;
 use crate::refusal::Refusal;
+use arrayvec::ArrayVec;
 
 impl Draft {
     /// The empty draft.
@@ -13,8 +14,7 @@ impl Draft {
         ensures { lines_of result ≡ [] }
     {
         Draft {
-            lines: [Line::Const(false); 64],
-            count: 0,
+            lines: ArrayVec::new(),
         }
     }
 
@@ -22,36 +22,32 @@ impl Draft {
     pub fn len(&self) -> usize
         ensures { result ≡ length (lines_of self.now) }
     {
-        self.lines().len()
+        self.lines.len()
     }
 
     /// Whether there is no line.
     pub fn is_empty(&self) -> bool
         ensures { result ≡ (length (lines_of self.now) == 0) }
     {
-        self.len() == 0
+        self.lines.is_empty()
     }
 
     /// The lines, in order.
     pub fn lines(&self) -> &[Line]
         ensures { result.now ≡ lines_of self.now }
     {
-        &self.lines[0..self.count]
+        self.lines.as_slice()
     }
 
     /// Adds a line, and answers its number.
     pub fn push(&mut self, line: Line) -> Result<u8, Refusal>
         ensures { (written result, drafted self.new) ≡ pushed (drafted self.old) line }
     {
-        if !line.fits(self.count) {
+        let number = self.len();
+        if !line.fits(number) {
             return Err(Refusal::Operand);
         }
-        if self.count == 64 {
-            return Err(Refusal::Full);
-        }
-        let number = self.count;
-        self.lines[number] = line;
-        self.count = number + 1;
+        self.lines.try_push(line).map_err(|_| Refusal::Full)?;
         Ok(number as u8)
     }
 
@@ -70,16 +66,13 @@ impl Draft {
     pub fn strike(&mut self) -> Result<(), Refusal>
         ensures { (done result, drafted self.new) ≡ fed (drafted self.old) Strike }
     {
-        self.count = self.count.checked_sub(1).ok_or(Refusal::Empty)?;
-        Ok(())
+        self.lines.pop().map(|_| ()).ok_or(Refusal::Empty)
     }
 
     /// Keeps the first `kept` lines, where there are more, and takes the others off.
     pub fn truncate(&mut self, kept: usize)
         ensures { lines_of self.new ≡ take kept (lines_of self.old) }
     {
-        if kept < self.count {
-            self.count = kept;
-        }
+        self.lines.truncate(kept);
     }
 }
