@@ -1,5 +1,6 @@
 -- The lines of a draft, as many as its count, and what the ledger answers and leaves in each case.
-use Rattle.std.proofs.Common.{refl, ◌≡◌, ℕ, zero, suc, Bool, true, false, cond, ◌&&◌, eqb, ltb, List, [], ◌∷◌, map, length, get_or, Some, None, Option, subst, arith}
+use Rattle.std.proofs.Common.{not, refl, ◌≡◌, ℕ, zero, suc, Bool, true, false, cond, ◌&&◌, eqb, ltb, List, [], ◌∷◌, map, length, get_or, Some, None, Option, subst, arith}
+use Rattle.std.proofs.lemmas.Bool.{not-true, not-false}
 use Rattle.std.proofs.lemmas.Bool.Decides.{nat_tests}
 use Rattle.sheet.specs.declared.draft.Draft.{Draft}
 use Rattle.sheet.specs.declared.line.Line.{Line}
@@ -15,15 +16,15 @@ length_lines d = refl
 pub draft_sheet : (d : Draft) → Sheet (lines_of d)
 draft_sheet d k h = fits_lower k (get_or d.lines.items k blank) (d.lower k h)
 
--- P of each item of a list
-abbrev All : {A : Type 0} → (A → Type 0) → List A → Type 0
-All P [] = Unit {0}
-All P (x ∷ xs) = P x × All P xs
+-- P of each item of a list, as a tuple
+abbrev Each : {A : Type 0} → (A → Type 0) → List A → Type 0
+Each P [] = Unit {0}
+Each P (x ∷ xs) = P x × Each P xs
 
-all_get_d : {A : Type 0} (P : A → Type 0) (d : A) → P d → (xs : List A) → All P xs → (k : ℕ) → P (get_or xs k d)
-all_get_d P d none [] h k = none
-all_get_d P d none (x ∷ xs) h zero = h.0
-all_get_d P d none (x ∷ xs) h (suc k) = all_get_d P d none xs h.1 k
+each_get_or : {A : Type 0} (P : A → Type 0) (d : A) → P d → (xs : List A) → Each P xs → (k : ℕ) → P (get_or xs k d)
+each_get_or P d none [] h k = none
+each_get_or P d none (x ∷ xs) h zero = h.0
+each_get_or P d none (x ∷ xs) h (suc k) = each_get_or P d none xs h.1 k
 
 -- the operands of a line that a code names, and whether it fits, are what the table asks of it
 abbrev Asked : ℕ → ℕ → ℕ → Option Line → Type 0
@@ -44,12 +45,12 @@ named_asked n c a b l e =
     let one : (ltb a n && eqb b 0) ≡ ((eqb a a && eqb 0 b) && ltb a n) = one_asked (ltb a n) a b in
     let two : (ltb a n && ltb b n) ≡ ((eqb a a && eqb b b) && (ltb a n && ltb b n)) = two_asked (ltb a n && ltb b n) a b in
     subst (Asked n a b) e
-    (all_get_d (Asked n a b) None tt (map Some (lines_with a b)) (bit_asked a b, (one_asked (ltb a 32) a b, (one, (two, (two, (one, (two, (two, (one, (one, (two, (two, tt)))))))))))) c)
+    (each_get_or (Asked n a b) None tt (map Some (lines_with a b)) (bit_asked a b, (one_asked (ltb a 32) a b, (one, (two, (two, (one, (two, (two, (one, (one, (two, (two, tt)))))))))))) c)
 
 -- what the ledger says of a line that a code names: with other operands than the line's own it is refused, else it is
 -- pushed
-pub write_operand : (s : Ledger) (c a b : ℕ) (l : Line) → named_line c a b ≡ Some l → (eqb (operands l).0 a && eqb (operands l).1 b) ≡ false → (Refused 2, s) ≡ fed s (Write c a b)
-write_operand s c a b l e f = simp (e, named_asked (length s.lines) c a b l e, f)
+pub write_operand : (s : Ledger) (c a b : ℕ) (l : Line) → named_line c a b ≡ Some l → not (eqb (operands l).0 a && eqb (operands l).1 b) ≡ true → (Refused 2, s) ≡ fed s (Write c a b)
+write_operand s c a b l e f = simp (e, named_asked (length s.lines) c a b l e, not-true _ f)
 
-pub write_pushed : (s : Ledger) (c a b : ℕ) (l : Line) → named_line c a b ≡ Some l → (eqb (operands l).0 a && eqb (operands l).1 b) ≡ true → pushed s l ≡ fed s (Write c a b)
-write_pushed s c a b l e f = simp (e, named_asked (length s.lines) c a b l e, f)
+pub write_pushed : (s : Ledger) (c a b : ℕ) (l : Line) → named_line c a b ≡ Some l → not (eqb (operands l).0 a && eqb (operands l).1 b) ≡ false → pushed s l ≡ fed s (Write c a b)
+write_pushed s c a b l e f = simp (e, named_asked (length s.lines) c a b l e, not-false _ f)
