@@ -1,7 +1,7 @@
 // Truth kinds, and the two that are built.
 ghost use Rattle.std.specs.Prelude.{◌≡◌, Some};
 ghost use Rattle.recording.specs.Kind.{Kind, Tells};
-ghost use Rattle.recording.specs.Kinds.{two, three};
+ghost use Rattle.recording.specs.Kinds.{two, three, raised};
 ghost use Rattle.recording.specs.Printed.{truth_text};
 
 use std::fmt;
@@ -75,6 +75,14 @@ pub enum Ternary {
     No,
     Lost,
     Yes,
+}
+
+impl From<bool> for Ternary {
+    ghost from_gives = { λ b p. p ≡ raised b };
+
+    fn from(yes: bool) -> Ternary {
+        if yes { Ternary::Yes } else { Ternary::No }
+    }
 }
 
 impl fmt::Display for Ternary {

@@ -33,13 +33,7 @@ impl GappedTape {
 fn seen_as(lost: bool, set: bool) -> Ternary
     ensures { result ≡ seen lost set }
 {
-    if lost {
-        Ternary::Lost
-    } else if set {
-        Ternary::Yes
-    } else {
-        Ternary::No
-    }
+    if lost { Ternary::Lost } else { set.into() }
 }
 
 impl Recording for GappedTape {
