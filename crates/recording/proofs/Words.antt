@@ -9,7 +9,7 @@ use Rattle.recording.specs.Made.{AreSizes, TapeMade, GappedMade}
 use Rattle.recording.specs.declared.sizes.Sizes.{Sizes}
 
 one_way : {signals stem cycle : ℕ} (a b : InRange signals stem cycle) → a ≡ b
-one_way a b = λ i. (le_prop a.0 b.0 i, le_prop a.1 b.1 i, le_prop a.2 b.2 i, le_prop a.3 b.3 i, le_prop a.4 b.4 i)
+one_way = hlevel le_prop
 
 pub same_tape : {signals stem cycle : ℕ} {m n : List ℕ} → m ≡ n → (a b : InRange signals stem cycle) → tape signals stem cycle m a ≡ tape signals stem cycle n b
 same_tape {signals} {stem} {cycle} e a b = λ i. tape signals stem cycle (e i) (one_way a b i)

@@ -7,6 +7,7 @@ pub mod calls;
 #[derive(Clone, Copy)]
 pub struct GappedTape {
     sizes: Sizes,
+    // Arrays with places that are not read: a tape is Copy, which no vector is.
     masks: [u32; 320],
     lost: [u32; 320],
 }

@@ -6,5 +6,6 @@ pub mod calls;
 #[derive(Clone, Copy)]
 pub struct Tape {
     sizes: Sizes,
+    // An array with places that are not read: a tape is Copy, which no vector is.
     masks: [u32; 320],
 }
