@@ -28,6 +28,11 @@ two =
       not_or = elim [ true ↦ λ q. refl | false ↦ λ q. refl ];
     }
 
+-- no and yes, among the three
+abbrev pub raised : Bool → Ternary
+raised false = No
+raised true = Yes
+
 -- the lower of two
 abbrev pub both : Ternary → Ternary → Ternary
 both No q = No

@@ -1,5 +1,5 @@
 -- What the sheet's types mean to the ledger: their lines, their form, their answers.
-use Rattle.std.specs.Prelude.{ℕ, List, take, Ok, Err, Result}
+use Rattle.std.specs.Prelude.{ℕ, List, Ok, Err, Result}
 use Rattle.sheet.specs.declared.draft.Draft.{Draft}
 use Rattle.sheet.specs.declared.line.Line.{Line}
 use Rattle.sheet.specs.declared.refusal.Refusal.{Refusal}
@@ -9,7 +9,7 @@ use Rattle.sheet.specs.Ledger.{Ledger, Answer, Drafted, Shut, Written, Done, Ref
 use Rattle.sheet.specs.Refusals.{number_of}
 
 abbrev pub lines_of : Draft → List Line
-lines_of d = take d.count d.lines
+lines_of d = d.lines.items
 
 abbrev pub sealed_lines : Sealed → List Line
 sealed_lines s = lines_of s.draft

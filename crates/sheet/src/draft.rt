@@ -2,15 +2,14 @@ ghost use Rattle.std.specs.Prelude.{◌≡◌, ℕ, ◌<◌, ◌≤◌, true, le
 ghost use Rattle.sheet.specs.Table.{fits, blank};
 
 use crate::line::Line;
+use arrayvec::ArrayVec;
 
 pub mod calls;
 
-/// A sheet that takes lines and gives them up. What stands in `lines` from `count` on has no meaning.
+/// A sheet that takes lines and gives them up.
 #[derive(Drop)]
 pub struct Draft {
-    lines: [Line; 64],
-    count: usize,
-    ghost whole: { length lines ≡ 64 },
-    ghost room: { count ≤ 64 },
-    ghost lower: { (k : ℕ) → k < count → fits k (slice_index_or lines k blank) ≡ true },
+    lines: ArrayVec<Line, 64>,
+    ghost room: { length lines.items ≤ 64 },
+    ghost lower: { (k : ℕ) → k < length lines.items → fits k (slice_index_or lines.items k blank) ≡ true },
 }

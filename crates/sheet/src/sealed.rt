@@ -1,4 +1,4 @@
-ghost use Rattle.std.specs.Prelude.{◌<◌};
+ghost use Rattle.std.specs.Prelude.{◌<◌, length};
 
 use crate::draft::Draft;
 use crate::refusal::Refusal;
@@ -9,7 +9,7 @@ pub mod calls;
 #[derive(Drop)]
 pub struct Sealed {
     draft: Draft,
-    ghost some: { 0 < draft.count },
+    ghost some: { 0 < length draft.lines.items },
 }
 
 /// A draft that was not sealed, handed back as it was, and why.

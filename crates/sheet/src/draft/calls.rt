@@ -1,11 +1,12 @@
-// The calls on a draft: write, strike, and what its readers and the rule reader need.
+// The calls on a draft: push, write, strike, and what its readers and the rule reader need.
 ghost use Rattle.std.specs.Prelude.{◌≡◌, List, [], length, take, ◌==◌};
-ghost use Rattle.sheet.specs.Ledger.{fed, Write, Strike};
+ghost use Rattle.sheet.specs.Ledger.{fed, pushed, Write, Strike};
 ghost use Rattle.sheet.specs.Sheets.{lines_of, drafted, written, done};
 
 use crate::draft::Draft;
 use crate::line::Line;
 use crate::refusal::Refusal;
+use arrayvec::ArrayVec;
 
 impl Draft {
     /// The empty draft.
@@ -13,8 +14,7 @@ impl Draft {
         ensures { lines_of result ≡ [] }
     {
         Draft {
-            lines: [Line::Const(false); 64],
-            count: 0,
+            lines: ArrayVec::new(),
         }
     }
 
@@ -22,59 +22,57 @@ impl Draft {
     pub fn len(&self) -> usize
         ensures { result ≡ length (lines_of self.now) }
     {
-        self.lines().len()
+        self.lines.len()
     }
 
     /// Whether there is no line.
     pub fn is_empty(&self) -> bool
         ensures { result ≡ (length (lines_of self.now) == 0) }
     {
-        self.len() == 0
+        self.lines.is_empty()
     }
 
     /// The lines, in order.
     pub fn lines(&self) -> &[Line]
         ensures { result.now ≡ lines_of self.now }
     {
-        &self.lines[0..self.count]
+        self.lines.as_slice()
+    }
+
+    /// Adds a line, and answers its number.
+    pub fn push(&mut self, line: Line) -> Result<u8, Refusal>
+        ensures { (written result, drafted self.new) ≡ pushed (drafted self.old) line }
+    {
+        let number = self.len();
+        if !line.fits(number) {
+            return Err(Refusal::Operand);
+        }
+        self.lines.try_push(line).map_err(|_| Refusal::Full)?;
+        Ok(number as u8)
     }
 
     /// Adds the line of this code and these operands, and answers its number.
     pub fn write(&mut self, code: u8, left: u8, right: u8) -> Result<u8, Refusal>
         ensures { (written result, drafted self.new) ≡ fed (drafted self.old) (Write code left right) }
     {
-        let Some(line) = Line::named(code, left, right) else {
-            return Err(Refusal::Code);
-        };
-        if !line.allows(left, right, self.count) {
+        let line = Line::named(code, left, right).ok_or(Refusal::Code)?;
+        if line.operands() != (left, right) {
             return Err(Refusal::Operand);
         }
-        if self.count == 64 {
-            return Err(Refusal::Full);
-        }
-        let number = self.count;
-        self.lines[number] = line;
-        self.count = number + 1;
-        Ok(number as u8)
+        self.push(line)
     }
 
     /// Takes the last line off.
     pub fn strike(&mut self) -> Result<(), Refusal>
         ensures { (done result, drafted self.new) ≡ fed (drafted self.old) Strike }
     {
-        if self.count == 0 {
-            return Err(Refusal::Empty);
-        }
-        self.count -= 1;
-        Ok(())
+        self.lines.pop().map(|_| ()).ok_or(Refusal::Empty)
     }
 
     /// Keeps the first `kept` lines, where there are more, and takes the others off.
     pub fn truncate(&mut self, kept: usize)
         ensures { lines_of self.new ≡ take kept (lines_of self.old) }
     {
-        if kept < self.count {
-            self.count = kept;
-        }
+        self.lines.truncate(kept);
     }
 }
