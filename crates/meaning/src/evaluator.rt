@@ -3,7 +3,7 @@ ghost use Rattle.std.specs.Prelude.{◌≡◌, suc, ◌+◌, ◌-◌, ◌*◌, �
 ghost use Rattle.meaning.specs.Sheet.{constant, rule_of};
 ghost use Rattle.recording.specs.Word.{meant};
 ghost use Rattle.sheet.specs.Sheets.{sealed_lines};
-ghost use Rattle.sheet.specs.Table.{Lower, Named, Sheet as IsSheet};
+ghost use Rattle.sheet.specs.Table.{Lower, Named};
 ghost use Rattle.meaning.specs.Cells.{Room, column, Fills};
 ghost use Rattle.meaning.specs.Columns.{written};
 ghost use Rattle.meaning.specs.Verdict.{Verdict};
@@ -11,7 +11,7 @@ ghost use Rattle.meaning.specs.Verdict.{Verdict};
 use crate::backward::{fill_previous, fill_since};
 use crate::cells::{Grid, read};
 use crate::depth::depth_under;
-use crate::extent::extent_of_lines;
+use crate::extent::extent_of;
 use crate::forward::{fill_next, fill_until};
 use crate::pointwise::{fill_and, fill_constant, fill_not, fill_or, fill_signal};
 use crate::refusal::Refusal;
@@ -63,44 +63,6 @@ fn fill_line<R: Recording>(
     }
 }
 
-// Judges the lines of a sheet.
-fn judge_lines<R: Recording>(
-    lines: &[Line],
-    recording: &R,
-    cells: &mut [R::Truth],
-) -> Result<R::Truth, Refusal>
-    requires sheet { IsSheet lines.now }
-    requires some { 0 < length lines.now }
-    requires few { length lines.now ≤ 64 }
-    ensures { Verdict R.Truth.Truth.kind R.Truth.Truth.means lines.now (R.Recording.word recording.now) (rule_of lines.now) 0 cells.old cells.new result }
-{
-    let extent = extent_of_lines(lines, recording, cells.len())?;
-    let cycle = recording.cycle() as usize;
-    let mut grid = Grid {
-        width: lines.len(),
-        samples: recording.stem() as usize + cycle,
-        steady: recording.stem() as usize,
-    };
-    let mut depths = [0; 64];
-    let mut deepest = 0;
-    for k in 0..lines.len() {
-        let depth = depth_under(lines[k], &depths) + looks_back(lines[k]);
-        // lower lines repeat from grid.steady on, and a line that is deeper than all of them a cycle later
-        let deeper = depth.saturating_sub(deepest);
-        let count = deeper * cycle;
-        repeat(cells, grid, k, cycle, count);
-        grid = grid.longer(count);
-        depths[k] = depth;
-        deepest += deeper;
-        fill_line(cells, grid, k, lines[k], recording);
-    }
-    while grid.steady < extent.steady {
-        repeat(cells, grid, grid.width, cycle, cycle);
-        grid = grid.longer(cycle);
-    }
-    Ok(read(cells, grid.width, grid.width - 1, 0))
-}
-
 /// Judges a sealed sheet on a recording: sets cell t * L + k to the value of line k at sample t, for each of the L lines
 /// and each sample below S + v, where S is the stem and a cycle v for each line that looks back; keeps further cells; and
 /// answers the value of the rule, the last line, at sample 0.
@@ -111,5 +73,30 @@ pub fn judge<R: Recording>(
 ) -> Result<R::Truth, Refusal>
     ensures { Verdict R.Truth.Truth.kind R.Truth.Truth.means (sealed_lines sheet.now) (R.Recording.word recording.now) (rule_of (sealed_lines sheet.now)) 0 cells.old cells.new result }
 {
-    judge_lines(sheet.lines(), recording, cells)
+    let extent = extent_of(sheet, recording, cells.len())?;
+    let lines = sheet.lines();
+    let cycle = recording.cycle() as usize;
+    let mut grid = Grid {
+        width: lines.len(),
+        samples: recording.stem() as usize + cycle,
+        steady: recording.stem() as usize,
+    };
+    let mut depths = [0; 64];
+    let mut deepest = 0;
+    for (k, line) in lines.iter().enumerate() {
+        let depth = depth_under(*line, &depths) + usize::from(looks_back(*line));
+        // lower lines repeat from grid.steady on, and a line that is deeper than all of them a cycle later
+        let deeper = depth.saturating_sub(deepest);
+        let count = deeper * cycle;
+        repeat(cells, grid, k, cycle, count);
+        grid = grid.longer(count);
+        depths[k] = depth;
+        deepest += deeper;
+        fill_line(cells, grid, k, *line, recording);
+    }
+    while grid.steady < extent.steady {
+        repeat(cells, grid, grid.width, cycle, cycle);
+        grid = grid.longer(cycle);
+    }
+    Ok(read(cells, grid.width, grid.width - 1, 0))
 }
