@@ -151,7 +151,7 @@ pub further_more : {V M : Type 0} {means : V → M} {width k n : ℕ} {y : V →
 further_more {k = k} hk fills i h d = fills.others d i (λ t _ ht e. omega (arith, mul-add-lt t _ k _ ht hk))
 
 -- how many samples there are at most
-few_samples : (stem count cycle : ℕ) → stem ≤ 256 → count ≤ 63 → cycle ≤ 64 → stem + count * cycle + cycle ≤ 4352
+pub few_samples : (stem count cycle : ℕ) → stem ≤ 256 → count ≤ 63 → cycle ≤ 64 → stem + count * cycle + cycle ≤ 4352
 few_samples stem count cycle a b c = omega (arith, mul-le count cycle 63 64 b c)
 
 -- the first line does not look back
@@ -169,7 +169,7 @@ first_past (WeakPrevious a) low = absurd (not-suc-le-zero low)
 first_past (Since a b) low = absurd (not-suc-le-zero low.0)
 first_past (WeakSince a b) low = absurd (not-suc-le-zero low.0)
 
-pasts_below : (x : ℕ → Line) → Lower 0 (x 0) → (n : ℕ) → pasts x (suc n) ≤ n
+pub pasts_below : (x : ℕ → Line) → Lower 0 (x 0) → (n : ℕ) → pasts x (suc n) ≤ n
 pasts_below x low zero = omega (arith, first_past (x 0) low)
 pasts_below x low (suc n) = omega (arith, pasts_below x low n, past_most (x (suc n)))
 

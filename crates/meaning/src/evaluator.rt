@@ -9,11 +9,11 @@ ghost use Rattle.meaning.specs.Columns.{written};
 ghost use Rattle.meaning.specs.Verdict.{Verdict};
 
 use crate::backward::{fill_previous, fill_since};
-use crate::cells::{Grid, read};
+use crate::cells::Grid;
 use crate::depth::depth_under;
 use crate::extent::extent_of;
-use crate::forward::{fill_next, fill_until};
-use crate::pointwise::{fill_and, fill_constant, fill_not, fill_or, fill_signal};
+use crate::forward::fill_until;
+use crate::pointwise::{fill, fill_next, value_of};
 use crate::refusal::Refusal;
 use crate::repeating::repeat;
 use crate::signals::looks_back;
@@ -48,11 +48,18 @@ fn fill_line<R: Recording>(
     let no = R::Truth::no();
     let yes = R::Truth::yes();
     match one {
-        Line::Const(bit) => fill_constant(cells, grid, number, truth_of(bit)),
-        Line::Signal(signal) => fill_signal(cells, grid, number, recording, signal as u32),
-        Line::Not(a) => fill_not(cells, grid, number, a as usize),
-        Line::And(a, b) => fill_and(cells, grid, number, a as usize, b as usize),
-        Line::Or(a, b) => fill_or(cells, grid, number, a as usize, b as usize),
+        Line::Const(bit) => {
+            let value = truth_of(bit);
+            fill(cells, grid, number, |_, _| value)
+        }
+        Line::Signal(signal) => fill(cells, grid, number, |_, t| value_of(recording, signal, t)),
+        Line::Not(a) => fill(cells, grid, number, |row, _| row[a as usize].not()),
+        Line::And(a, b) => fill(cells, grid, number, |row, _| {
+            row[a as usize].and(row[b as usize])
+        }),
+        Line::Or(a, b) => fill(cells, grid, number, |row, _| {
+            row[a as usize].or(row[b as usize])
+        }),
         Line::Next(a) => fill_next(cells, grid, number, a as usize),
         Line::Until(a, b) => fill_until(cells, grid, number, a as usize, b as usize, no),
         Line::WeakUntil(a, b) => fill_until(cells, grid, number, a as usize, b as usize, yes),
@@ -98,5 +105,5 @@ pub fn judge<R: Recording>(
         repeat(cells, grid, grid.width, cycle, cycle);
         grid = grid.longer(cycle);
     }
-    Ok(read(cells, grid.width, grid.width - 1, 0))
+    Ok(grid.read(cells, grid.width - 1, 0))
 }
