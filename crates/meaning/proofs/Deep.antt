@@ -1,7 +1,8 @@
 -- A line repeats from a cycle after the stem for each level that it is deep, so that no more of it has to be filled.
-use Rattle.std.proofs.Common.{◌≡◌, ℕ, zero, suc, ◌+◌, ◌-◌, ◌*◌, ◌<◌, ◌≤◌, List, length, get_or, set, sym, ap, ◌∙◌, subst, add-zero, add-suc, add-mul, add-one, arith, length-set, get_or-set_other, get_or-set_same}
+use Rattle.std.proofs.Common.{◌≡◌, ℕ, zero, suc, ◌+◌, ◌-◌, ◌*◌, ◌<◌, ◌≤◌, Bool, eqb, List, length, get_or, set, sym, ap, ◌∙◌, subst, ap₂, add-zero, add-suc, add-mul, add-one, arith, length-set, get_or-set_other, get_or-set_same}
 use native.Mathlib.Decide.{dec_lt}
 use Rattle.std.proofs.lemmas.Nat.{mul-add-lt, mul-le}
+use Rattle.std.specs.Int.{from_bool}
 use Rattle.recording.specs.Kind.{Kind}
 use Rattle.recording.specs.Word.{Word, meant}
 use Rattle.sheet.specs.declared.line.Line.{Line}
@@ -13,6 +14,7 @@ use Rattle.meaning.specs.Depths.{under, deep}
 use Rattle.meaning.specs.Sheet.{Values, Valuation, Periodic}
 use Rattle.meaning.specs.Verdict.{steady, horizon}
 use Rattle.meaning.specs.declared.cells.Grid.{Grid}
+use Rattle.meaning.proofs.Counting.{past_bit}
 use Rattle.meaning.proofs.Filling.{others_kept, room, same_sample}
 use Rattle.meaning.proofs.Passes.{future}
 use Rattle.meaning.proofs.Period.{over_under, row_over}
@@ -192,21 +194,36 @@ pub reach_all : {V : Type 0} {lines : List Line} {w : Word V} {grid : Grid} {n :
 reach_all {lines = lines} {w = w} {n = n} r few h =
     omega (arith, r.samples, r.steady, mul-le n w.cycle (pasts (line lines) (length lines)) w.cycle few (omega arith))
 
--- what a turn of the evaluator's loop may count on: the depth of line k, and how much deeper it is than those below
-pub record Turn {V : Type 0} (lines : List Line) (w : Word V) (grid : Grid) (n depth more : ℕ) : Type 0 where
+-- what a turn of the evaluator's loop may count on: line k, its depth, and how much deeper it is than those below
+pub record Turn {V : Type 0} (lines : List Line) (w : Word V) (grid : Grid) (depths : List ℕ) (n k depth more : ℕ) : Type 0 where
+  pub sheet : Sheet lines
+  pub below : k < length lines
+  pub small_line : k < 64
+  pub is : depth ≡ deep (λ a. get_or depths a 0) (line lines k)
   pub small : depth ≤ 64
   pub few : n + more ≤ 64
   pub turn : more * w.cycle ≤ w.cycle
   pub within : grid.samples + more * w.cycle ≤ horizon lines w
 
-pub turn_is : (K : Kind) {V : Type 0} (means : V → K.Value) (lines : List Line) (w : Word V) → Sheet lines → HasSignals lines w.signals → length lines ≤ 64
-    → (grid : Grid) (depths : List ℕ) (n k : ℕ) → k < length lines → Reach lines w grid n → Deep K means lines w depths n k
-    → (depth more : ℕ) → depth ≡ deep (λ a. get_or depths a 0) (line lines k) → more ≡ depth - n → Turn lines w grid n depth more
-turn_is K means lines w sheet named short grid depths n k below reach deeps depth more ed em =
-    let few : n + more ≤ pasts (line lines) (k + 1) = omega (arith, deep_few K means lines w sheet named depths n k below (omega arith) deeps) in
-    let one : more ≤ 1 = omega (arith, one_deeper K means lines w sheet named depths n k below (omega arith) deeps) in
+-- read are the lines as the loop reads them
+pub turn_is : (K : Kind) {V : Type 0} (means : V → K.Value) {lines read : List Line} (w : Word V) → read ≡ lines → Sheet read → length read ≤ 64 → HasSignals lines w.signals
+    → {grid : Grid} {depths : List ℕ} {n k : ℕ} → k < length read → Reach lines w grid n → Deep K means lines w depths n k
+    → {under_it bit more : ℕ} {back : Bool} → under_it ≡ under (λ a. get_or depths a 0) (line read k) → back ≡ eqb (past (line read k)) 1 → bit ≡ from_bool back
+    → more ≡ under_it + bit - n → Turn lines w grid depths n k (under_it + bit) more
+turn_is K means {lines} {read} w are sheet short named {grid} {depths} {n} {k} below reach deeps {under_it} {bit} {more} {back} eu eb ei em =
+    let same : Sheet lines = subst Sheet are sheet in
+    let few_lines : length lines ≤ 64 = subst (λ ls. length ls ≤ 64) are short in
+    let here : k < length lines = subst (λ ls. k < length ls) are below in
+    let looks : bit ≡ past (line lines k) = ei ∙ ap from_bool (subst (λ ls. back ≡ eqb (past (line ls k)) 1) are eb) ∙ past_bit (line lines k) in
+    let is : under_it + bit ≡ deep (λ a. get_or depths a 0) (line lines k) = ap₂ ◌+◌ (subst (λ ls. under_it ≡ under (λ a. get_or depths a 0) (line ls k)) are eu) looks in
+    let few : n + more ≤ pasts (line lines) (k + 1) = omega (arith, deep_few K means lines w same named depths n k here (omega arith) deeps) in
+    let one : more ≤ 1 = omega (arith, one_deeper K means lines w same named depths n k here (omega arith) deeps) in
     record {
-      small = omega (arith, own_most K means lines w sheet named depths n k below (omega arith) deeps, past_most (line lines k), deeps.few, pasts_count (line lines) k);
+      sheet = same;
+      below = here;
+      small_line = omega arith;
+      is = is;
+      small = omega (arith, own_most K means lines w same named depths n k here (omega arith) deeps, past_most (line lines k), deeps.few, pasts_count (line lines) k);
       few = omega (arith, pasts_count (line lines) (k + 1));
       turn = omega (arith, mul-le more w.cycle 1 w.cycle one (omega arith));
       within = reach_more more reach (omega (arith, pasts_mono (line lines) (k + 1) (length lines) (omega arith)));

@@ -1,8 +1,9 @@
 -- A column is filled cell by cell.
 use Rattle.std.proofs.Common.{◌≡◌, ℕ, ◌+◌, ◌-◌, ◌*◌, ◌/◌, ◌%◌, ◌<◌, ◌≤◌, ◌≢◌, List, length, get_or, set, sym, refl, ap, ◌∙◌, subst, arith, get_or-set_other, get_or-set_same}
+use Rattle.std.proofs.lemmas.List.{get_or_default}
 use native.Mathlib.Decide.{dec_lt}
 use Rattle.std.proofs.lemmas.Nat.{mul-add-lt, div-mul-add, mod-mul-add}
-use Rattle.meaning.specs.Cells.{Room, column, Fills}
+use Rattle.meaning.specs.Cells.{Room, column, Fills, IsRow}
 
 -- different lines or samples have different cells
 pub same_line : (w s j t k : ℕ) → j < w → k < w → s * w + j ≡ t * w + k → j ≡ k
@@ -78,6 +79,15 @@ module _ {V M : Type 0} {means : V → M} {w k : ℕ} {before : List V} {y : V �
       → ((d : V) → get_or cells (t * w + a) d ≡ r) → (d : V) → means r ≡ column means before w a d t
   read_as {lo} {hi} {cells} hk f a t ha r e d = ap means (sym (e d) ∙ others_kept means w k hk before y lo hi cells f a ha d t)
 
+  -- a lower line's column, while line k is filled
+  pub read_column : {lo hi : ℕ} {cells : List V} → k < w → Fills means w k before y lo hi cells → (a t : ℕ) → a < k → (d : V) → column means cells w a d t ≡ column means before w a d t
+  read_column {lo} {hi} {cells} hk f a t ha d = ap means (others_kept means w k hk before y lo hi cells f a ha d t)
+
+  -- the lower lines at a sample, while line k is filled
+  pub row_kept : {lo hi t : ℕ} {cells row : List V} → k < w → Fills means w k before y lo hi cells → IsRow w k t cells row → IsRow w k t before row
+  row_kept {lo} {hi} {t} {cells} hk f r =
+      record { long = r.long; values = λ d a ha. r.values d a ha ∙ others_kept means w k hk before y lo hi cells f a ha d t }
+
   -- the same column, told otherwise
   pub filled_as : {z : V → ℕ → M} {lo hi : ℕ} {cells : List V} → ((d : V) (t : ℕ) → lo ≤ t → t < hi → y d t ≡ z d t) → Fills means w k before y lo hi cells → Fills means w k before z lo hi cells
   filled_as e f = record { values = λ d t h₁ h₂. f.values d t h₁ h₂ ∙ e d t h₁ h₂; others = f.others }
@@ -88,3 +98,8 @@ module _ {V M : Type 0} {means : V → M} {w k : ℕ} {before : List V} {y : V �
   filled_down {hi} {t} {cells} {after} {x} hk ht hhi inside f e is =
       let u : t ≡ t - 1 + 1 = omega arith in
       filled_less hk (omega arith) inside (subst (λ i. Fills means w k before y i hi cells) u f) e is
+
+-- a value of the lower lines, as their column has it
+pub row_column : {V M : Type 0} (means : V → M) {w m t : ℕ} {cells row : List V} → IsRow w m t cells row → (a : ℕ) → a < m → (x : V) → x ≡ get_or row a x
+    → (d : V) → means x ≡ column means cells w a d t
+row_column means {row = row} r a ha x e d = ap means (e ∙ get_or_default row a x d (omega (arith, r.long)) ∙ r.values d a ha)

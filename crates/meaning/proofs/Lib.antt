@@ -10,3 +10,4 @@ pub mod Copies
 pub mod Rows
 pub mod Deep
 pub mod Reading
+pub mod Counting

@@ -6,13 +6,14 @@ use Rattle.recording.specs.Kind.{Kind}
 use Rattle.recording.specs.Word.{Word, meant}
 use Rattle.sheet.specs.declared.line.Line.{Line}
 use Rattle.sheet.specs.declared.line.Line.TheVariants.{Const, Signal, Not, And, Or, Next, Until, WeakUntil, Previous, WeakPrevious, Since, WeakSince}
-use Rattle.sheet.specs.Table.{Lower, past, pasts}
+use Rattle.sheet.specs.Table.{line, Lower, Sheet, past, pasts}
 use Rattle.meaning.specs.Sheet.{Values, Periodic, ands, since, before, Row, Valuation}
 use Rattle.meaning.specs.Judging.{pass, TwoPasses, Future}
 use Rattle.meaning.proofs.Lattice.{at_anti, and_right, no_at}
 use Rattle.meaning.proofs.Period.{since_zero, since_carries, weak_carries}
 use Rattle.meaning.specs.Cells.{column, Fills}
 use Rattle.meaning.specs.Columns.{following, carried, written}
+use Rattle.meaning.specs.Verdict.{horizon}
 use Rattle.meaning.proofs.Sweeps.{following_below}
 
 following_inside : (back n t : ℕ) → t + 1 < n → following back n t ≡ t + 1
@@ -171,3 +172,11 @@ first_past (WeakSince a b) low = absurd (not-suc-le-zero low.0)
 pub pasts_below : (x : ℕ → Line) → Lower 0 (x 0) → (n : ℕ) → pasts x (suc n) ≤ n
 pasts_below x low zero = omega (arith, first_past (x 0) low)
 pasts_below x low (suc n) = omega (arith, pasts_below x low n, past_most (x (suc n)))
+
+-- a sheet has at most so many samples
+pub horizon_most : {V : Type 0} (lines : List Line) (w : Word V) → Sheet lines → 0 < length lines → length lines ≤ 64 → horizon lines w ≤ 4352
+horizon_most lines w sheet some few =
+    let one : suc (length lines - 1) ≡ length lines = omega arith in
+    let most : pasts (line lines) (length lines) ≤ length lines - 1 =
+    subst (λ n. pasts (line lines) n ≤ length lines - 1) one (pasts_below (line lines) (sheet 0 some) (length lines - 1)) in
+    few_samples w.stem (pasts (line lines) (length lines)) w.cycle (omega arith) (omega arith) (omega arith)

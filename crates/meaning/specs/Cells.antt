@@ -19,3 +19,8 @@ module _ {V M : Type 0} (means : V → M) where
 pub record Repeated {V : Type 0} (width m v lo hi : ℕ) (before after : List V) : Type 0 where
   pub copies : (d : V) (t a : ℕ) → lo ≤ t → t < hi → a < m → slice_index_or after (t * width + a) d ≡ slice_index_or before ((t - v) * width + a) d
   pub others : (d : V) (i : ℕ) → ((t a : ℕ) → lo ≤ t → t < hi → a < m → i ≢ t * width + a) → slice_index_or after i d ≡ slice_index_or before i d
+
+-- the cells of the lines below m at sample t
+pub record IsRow {V : Type 0} (width m t : ℕ) (cells row : List V) : Type 0 where
+  pub long : length row ≡ m
+  pub values : (d : V) (a : ℕ) → a < m → slice_index_or row a d ≡ slice_index_or cells (t * width + a) d

@@ -4,7 +4,7 @@ ghost use Rattle.meaning.specs.Cells.{Room, column, Fills};
 ghost use Rattle.meaning.specs.Columns.{carried};
 ghost use Rattle.meaning.specs.Sheet.{before};
 
-use crate::cells::{Grid, put, read};
+use crate::cells::Grid;
 use recording::truth::Truth;
 
 pub(crate) fn fill_previous<T: Truth>(
@@ -19,8 +19,8 @@ pub(crate) fn fill_previous<T: Truth>(
 {
     let mut held = start;
     for t in 0..grid.samples {
-        put(cells, grid.width, line, t, held);
-        held = read(cells, grid.width, left, t);
+        grid.put(cells, line, t, held);
+        held = grid.read(cells, left, t);
     }
 }
 
@@ -37,10 +37,8 @@ pub(crate) fn fill_since<T: Truth>(
 {
     let mut held = start;
     for t in 0..grid.samples {
-        let l = read(cells, grid.width, left, t);
-        let r = read(cells, grid.width, right, t);
-        let value = r.or(l.and(held));
-        put(cells, grid.width, line, t, value);
+        let value = grid.carry(cells, left, right, t, held);
+        grid.put(cells, line, t, value);
         held = value;
     }
 }

@@ -1,7 +1,12 @@
 // The cells as a table with a row for each sample and a column for each line.
-ghost use Rattle.std.specs.Prelude.{◌≡◌, ◌+◌, ◌*◌, ◌<◌, length, slice_index_or, slice_set};
+ghost use Rattle.std.specs.Prelude.{◌≡◌, ◌+◌, ◌*◌, ◌^◌, ◌<◌, length, slice_index_or, slice_set};
+ghost use Rattle.meaning.specs.Cells.{column, IsRow};
+ghost use Rattle.meaning.specs.Columns.{following as next_sample};
 
-/// How the cells are laid out: the lines in a row, the samples, and the sample that comes after the last.
+use recording::truth::Truth;
+
+/// How the cells are laid out: the lines in a row, the samples, and the sample that comes after the last. The cells stand
+/// beside it: a struct that held the borrowed slice would have to say in each contract that it holds the same one still.
 #[derive(Clone, Copy)]
 pub(crate) struct Grid {
     pub(crate) width: usize,
@@ -9,16 +14,69 @@ pub(crate) struct Grid {
     pub(crate) steady: usize,
 }
 
-pub(crate) fn read<T: Copy>(cells: &[T], width: usize, line: usize, sample: usize) -> T
-    requires { sample * width + line < length cells.now }
-    ensures { (d : T) → slice_index_or cells.now (sample * width + line) d ≡ result }
-{
-    cells[sample * width + line]
-}
+impl Grid {
+    pub(crate) fn read<T: Copy>(self, cells: &[T], line: usize, sample: usize) -> T
+        requires { sample * self.width + line < length cells.now }
+        ensures { (d : T) → slice_index_or cells.now (sample * self.width + line) d ≡ result }
+    {
+        cells[sample * self.width + line]
+    }
 
-pub(crate) fn put<T: Copy>(cells: &mut [T], width: usize, line: usize, sample: usize, value: T)
-    requires { sample * width + line < length cells.old }
-    ensures { cells.new ≡ slice_set cells.old (sample * width + line) value }
-{
-    cells[sample * width + line] = value;
+    pub(crate) fn put<T: Copy>(self, cells: &mut [T], line: usize, sample: usize, value: T)
+        requires { sample * self.width + line < length cells.old }
+        ensures { cells.new ≡ slice_set cells.old (sample * self.width + line) value }
+    {
+        cells[sample * self.width + line] = value;
+    }
+
+    // The lines below a line at a sample.
+    pub(crate) fn lower<T: Copy>(self, cells: &[T], line: usize, sample: usize) -> &[T]
+        requires { sample * self.width + line < length cells.now }
+        ensures { IsRow self.width line sample cells.now result.now }
+    {
+        let start = sample * self.width;
+        &cells[start..start + line]
+    }
+
+    // Right at a sample, or left there and the value that is held.
+    pub(crate) fn carry<T: Truth>(
+        self,
+        cells: &[T],
+        left: usize,
+        right: usize,
+        sample: usize,
+        held: T,
+    ) -> T
+        requires left { sample * self.width + left < length cells.now }
+        requires right { sample * self.width + right < length cells.now }
+        ensures { (d : T) → T.means result ≡ T.kind.Or (column T.means cells.now self.width right d sample) (T.kind.And (column T.means cells.now self.width left d sample) (T.means held)) }
+    {
+        let l = self.read(cells, left, sample);
+        let r = self.read(cells, right, sample);
+        r.or(l.and(held))
+    }
+
+    // The sample that comes after a sample.
+    pub(crate) fn following(self, sample: usize) -> usize
+        requires { sample < self.samples }
+        ensures { result ≡ next_sample self.steady self.samples sample }
+    {
+        if sample + 1 < self.samples {
+            sample + 1
+        } else {
+            self.steady
+        }
+    }
+
+    // With so many more samples behind the last.
+    pub(crate) fn longer(self, count: usize) -> Grid
+        requires { (self.samples + count < 2 ^ 64) × (self.steady + count < 2 ^ 64) }
+        ensures { (result.width ≡ self.width) × (result.samples ≡ self.samples + count) × (result.steady ≡ self.steady + count) }
+    {
+        Grid {
+            width: self.width,
+            samples: self.samples + count,
+            steady: self.steady + count,
+        }
+    }
 }

@@ -3,17 +3,17 @@ ghost use Rattle.std.specs.Prelude.{◌≡◌, suc, ◌+◌, ◌-◌, ◌*◌, �
 ghost use Rattle.meaning.specs.Sheet.{constant, rule_of};
 ghost use Rattle.recording.specs.Word.{meant};
 ghost use Rattle.sheet.specs.Sheets.{sealed_lines};
-ghost use Rattle.sheet.specs.Table.{Lower, Named, Sheet as IsSheet};
+ghost use Rattle.sheet.specs.Table.{Lower, Named};
 ghost use Rattle.meaning.specs.Cells.{Room, column, Fills};
 ghost use Rattle.meaning.specs.Columns.{written};
 ghost use Rattle.meaning.specs.Verdict.{Verdict};
 
 use crate::backward::{fill_previous, fill_since};
-use crate::cells::{Grid, read};
+use crate::cells::Grid;
 use crate::depth::depth_under;
-use crate::extent::extent_of_lines;
-use crate::forward::{fill_next, fill_until};
-use crate::pointwise::{fill_and, fill_constant, fill_not, fill_or, fill_signal};
+use crate::extent::extent_of;
+use crate::forward::fill_until;
+use crate::pointwise::{fill, fill_next, value_of};
 use crate::refusal::Refusal;
 use crate::repeating::repeat;
 use crate::signals::looks_back;
@@ -48,11 +48,18 @@ fn fill_line<R: Recording>(
     let no = R::Truth::no();
     let yes = R::Truth::yes();
     match one {
-        Line::Const(bit) => fill_constant(cells, grid, number, truth_of(bit)),
-        Line::Signal(signal) => fill_signal(cells, grid, number, recording, signal as u32),
-        Line::Not(a) => fill_not(cells, grid, number, a as usize),
-        Line::And(a, b) => fill_and(cells, grid, number, a as usize, b as usize),
-        Line::Or(a, b) => fill_or(cells, grid, number, a as usize, b as usize),
+        Line::Const(bit) => {
+            let value = truth_of(bit);
+            fill(cells, grid, number, |_, _| value)
+        }
+        Line::Signal(signal) => fill(cells, grid, number, |_, t| value_of(recording, signal, t)),
+        Line::Not(a) => fill(cells, grid, number, |row, _| row[a as usize].not()),
+        Line::And(a, b) => fill(cells, grid, number, |row, _| {
+            row[a as usize].and(row[b as usize])
+        }),
+        Line::Or(a, b) => fill(cells, grid, number, |row, _| {
+            row[a as usize].or(row[b as usize])
+        }),
         Line::Next(a) => fill_next(cells, grid, number, a as usize),
         Line::Until(a, b) => fill_until(cells, grid, number, a as usize, b as usize, no),
         Line::WeakUntil(a, b) => fill_until(cells, grid, number, a as usize, b as usize, yes),
@@ -61,44 +68,6 @@ fn fill_line<R: Recording>(
         Line::Since(a, b) => fill_since(cells, grid, number, a as usize, b as usize, no),
         Line::WeakSince(a, b) => fill_since(cells, grid, number, a as usize, b as usize, yes),
     }
-}
-
-// Judges the lines of a sheet.
-fn judge_lines<R: Recording>(
-    lines: &[Line],
-    recording: &R,
-    cells: &mut [R::Truth],
-) -> Result<R::Truth, Refusal>
-    requires sheet { IsSheet lines.now }
-    requires some { 0 < length lines.now }
-    requires few { length lines.now ≤ 64 }
-    ensures { Verdict R.Truth.Truth.kind R.Truth.Truth.means lines.now (R.Recording.word recording.now) (rule_of lines.now) 0 cells.old cells.new result }
-{
-    let extent = extent_of_lines(lines, recording, cells.len())?;
-    let cycle = recording.cycle() as usize;
-    let mut grid = Grid {
-        width: lines.len(),
-        samples: recording.stem() as usize + cycle,
-        steady: recording.stem() as usize,
-    };
-    let mut depths = [0; 64];
-    let mut deepest = 0;
-    for k in 0..lines.len() {
-        let depth = depth_under(lines[k], &depths) + looks_back(lines[k]);
-        // lower lines repeat from grid.steady on, and a line that is deeper than all of them a cycle later
-        let deeper = depth.saturating_sub(deepest);
-        let count = deeper * cycle;
-        repeat(cells, grid, k, cycle, count);
-        grid = grid.longer(count);
-        depths[k] = depth;
-        deepest += deeper;
-        fill_line(cells, grid, k, lines[k], recording);
-    }
-    while grid.steady < extent.steady {
-        repeat(cells, grid, grid.width, cycle, cycle);
-        grid = grid.longer(cycle);
-    }
-    Ok(read(cells, grid.width, grid.width - 1, 0))
 }
 
 /// Judges a sealed sheet on a recording: sets cell t * L + k to the value of line k at sample t, for each of the L lines
@@ -111,5 +80,30 @@ pub fn judge<R: Recording>(
 ) -> Result<R::Truth, Refusal>
     ensures { Verdict R.Truth.Truth.kind R.Truth.Truth.means (sealed_lines sheet.now) (R.Recording.word recording.now) (rule_of (sealed_lines sheet.now)) 0 cells.old cells.new result }
 {
-    judge_lines(sheet.lines(), recording, cells)
+    let extent = extent_of(sheet, recording, cells.len())?;
+    let lines = sheet.lines();
+    let cycle = recording.cycle() as usize;
+    let mut grid = Grid {
+        width: lines.len(),
+        samples: recording.stem() as usize + cycle,
+        steady: recording.stem() as usize,
+    };
+    let mut depths = [0; 64];
+    let mut deepest = 0;
+    for (k, line) in lines.iter().enumerate() {
+        let depth = depth_under(*line, &depths) + usize::from(looks_back(*line));
+        // lower lines repeat from grid.steady on, and a line that is deeper than all of them a cycle later
+        let deeper = depth.saturating_sub(deepest);
+        let count = deeper * cycle;
+        repeat(cells, grid, k, cycle, count);
+        grid = grid.longer(count);
+        depths[k] = depth;
+        deepest += deeper;
+        fill_line(cells, grid, k, *line, recording);
+    }
+    while grid.steady < extent.steady {
+        repeat(cells, grid, grid.width, cycle, cycle);
+        grid = grid.longer(cycle);
+    }
+    Ok(grid.read(cells, grid.width - 1, 0))
 }

@@ -1,72 +1,46 @@
-// Lines whose value at a sample is told by values at that sample.
-ghost use Rattle.std.specs.Prelude.{◌≡◌, ◌<◌, ◌≤◌, length};
-ghost use Rattle.meaning.specs.Cells.{Room, column, Fills};
+// Lines whose value at a sample is told by lower lines, there or at the sample after.
+ghost use Rattle.std.specs.Prelude.{◌≡◌, ℕ, ◌<◌, ◌≤◌, length};
+ghost use Rattle.meaning.specs.Cells.{Room, column, Fills, IsRow};
+ghost use Rattle.meaning.specs.Columns.{following as next_sample};
 
-use crate::cells::{Grid, put, read};
+use crate::cells::Grid;
 use recording::recording::Recording;
 use recording::truth::Truth;
 
-pub(crate) fn fill_constant<T: Truth>(cells: &mut [T], grid: Grid, line: usize, value: T)
-    requires { (Room cells.old grid.width grid.samples) × (line < grid.width) }
-    ensures { Fills T.means grid.width line cells.old (λ d t. T.means value) 0 grid.samples cells.new }
-{
-    for t in 0..grid.samples {
-        put(cells, grid.width, line, t, value);
-    }
-}
-
-pub(crate) fn fill_not<T: Truth>(cells: &mut [T], grid: Grid, line: usize, left: usize)
-    requires { (Room cells.old grid.width grid.samples) × ((line < grid.width) × (left < line)) }
-    ensures { Fills T.means grid.width line cells.old (λ d t. T.kind.Not (column T.means cells.old grid.width left d t)) 0 grid.samples cells.new }
-{
-    for t in 0..grid.samples {
-        let value = read(cells, grid.width, left, t).not();
-        put(cells, grid.width, line, t, value);
-    }
-}
-
-pub(crate) fn fill_and<T: Truth>(
+// Fills the column of a line with what a closure gives of the lower lines' values at each sample, and of the sample.
+pub(crate) fn fill<T: Truth, F: Fn(&[T], usize) -> T>(
     cells: &mut [T],
     grid: Grid,
     line: usize,
-    left: usize,
-    right: usize,
+    value: F,
 )
-    requires { (Room cells.old grid.width grid.samples) × ((line < grid.width) × ((left < line) × (right < line))) }
-    ensures { Fills T.means grid.width line cells.old (λ d t. T.kind.And (column T.means cells.old grid.width left d t) (column T.means cells.old grid.width right d t)) 0 grid.samples cells.new }
+    requires room { Room cells.old grid.width grid.samples }
+    requires inside { line < grid.width }
+    requires callable { (row : _) (t : ℕ) → length row.now ≡ line → t < grid.samples → F.pre value row t }
+    ensures { (y : T → ℕ → T.kind.Value) → ((d : T) (row : _) (t : ℕ) (r : T) → IsRow grid.width line t cells.old row.now → t < grid.samples → F.post value row t r → T.means r ≡ y d t)
+        → Fills T.means grid.width line cells.old y 0 grid.samples cells.new }
 {
     for t in 0..grid.samples {
-        let l = read(cells, grid.width, left, t);
-        let r = read(cells, grid.width, right, t);
-        put(cells, grid.width, line, t, l.and(r));
+        let cell = value(grid.lower(cells, line, t), t);
+        grid.put(cells, line, t, cell);
     }
 }
 
-pub(crate) fn fill_or<T: Truth>(cells: &mut [T], grid: Grid, line: usize, left: usize, right: usize)
-    requires { (Room cells.old grid.width grid.samples) × ((line < grid.width) × ((left < line) × (right < line))) }
-    ensures { Fills T.means grid.width line cells.old (λ d t. T.kind.Or (column T.means cells.old grid.width left d t) (column T.means cells.old grid.width right d t)) 0 grid.samples cells.new }
+pub(crate) fn fill_next<T: Truth>(cells: &mut [T], grid: Grid, line: usize, left: usize)
+    requires { (Room cells.old grid.width grid.samples) × ((line < grid.width) × ((left < line) × (grid.steady < grid.samples))) }
+    ensures { Fills T.means grid.width line cells.old (λ d t. column T.means cells.old grid.width left d (next_sample grid.steady grid.samples t)) 0 grid.samples cells.new }
 {
     for t in 0..grid.samples {
-        let l = read(cells, grid.width, left, t);
-        let r = read(cells, grid.width, right, t);
-        put(cells, grid.width, line, t, l.or(r));
+        let value = grid.read(cells, left, grid.following(t));
+        grid.put(cells, line, t, value);
     }
 }
 
-pub(crate) fn fill_signal<R: Recording>(
-    cells: &mut [R::Truth],
-    grid: Grid,
-    line: usize,
-    recording: &R,
-    signal: u32,
-)
-    requires { (Room cells.old grid.width grid.samples) × ((line < grid.width) × ((grid.samples ≤ 4352) × (signal < (R.Recording.word recording.now).signals))) }
-    ensures { Fills R.Truth.Truth.means grid.width line cells.old (λ d t. R.Truth.Truth.means ((R.Recording.word recording.now).at signal t)) 0 grid.samples cells.new }
+// The value of a signal that a recording has.
+pub(crate) fn value_of<R: Recording>(recording: &R, signal: u8, sample: usize) -> R::Truth
+    requires named { signal < (R.Recording.word recording.now).signals }
+    requires few { sample ≤ 4352 }
+    ensures { R.Truth.Truth.means result ≡ R.Truth.Truth.means ((R.Recording.word recording.now).at signal sample) }
 {
-    for t in 0..grid.samples {
-        match recording.value(signal, t as u32) {
-            Some(value) => put(cells, grid.width, line, t, value),
-            None => unreachable(),
-        }
-    }
+    recording.value(u32::from(signal), sample as u32).unwrap()
 }

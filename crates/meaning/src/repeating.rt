@@ -1,33 +1,19 @@
 // Samples that repeat, copied.
-ghost use Rattle.std.specs.Prelude.{◌≡◌, ◌+◌, ◌^◌, ◌<◌, ◌≤◌, length};
+ghost use Rattle.std.specs.Prelude.{◌≡◌, ◌+◌, ◌<◌, ◌≤◌, length};
 ghost use Rattle.meaning.specs.Cells.{Room, Repeated};
 
-use crate::cells::{Grid, put, read};
-
-impl Grid {
-    // With so many more samples behind the last.
-    pub(crate) fn longer(self, count: usize) -> Grid
-        requires { (self.samples + count < 2 ^ 64) × (self.steady + count < 2 ^ 64) }
-        ensures { (result.width ≡ self.width) × (result.samples ≡ self.samples + count) × (result.steady ≡ self.steady + count) }
-    {
-        Grid {
-            width: self.width,
-            samples: self.samples + count,
-            steady: self.steady + count,
-        }
-    }
-}
+use crate::cells::Grid;
 
 // Copies the first lines of sample t - cycle to sample t.
-fn repeat_sample<T: Copy>(cells: &mut [T], width: usize, lines: usize, cycle: usize, t: usize)
-    requires room { Room cells.old width (t + 1) }
-    requires few { lines ≤ width }
+fn repeat_sample<T: Copy>(cells: &mut [T], grid: Grid, lines: usize, cycle: usize, t: usize)
+    requires room { Room cells.old grid.width (t + 1) }
+    requires few { lines ≤ grid.width }
     requires turn { (1 ≤ cycle) × (cycle ≤ t) }
-    ensures { Repeated width lines cycle t (t + 1) cells.old cells.new }
+    ensures { Repeated grid.width lines cycle t (t + 1) cells.old cells.new }
 {
     for a in 0..lines {
-        let value = read(cells, width, a, t - cycle);
-        put(cells, width, a, t, value);
+        let value = grid.read(cells, a, t - cycle);
+        grid.put(cells, a, t, value);
     }
 }
 
@@ -40,6 +26,6 @@ pub(crate) fn repeat<T: Copy>(cells: &mut [T], grid: Grid, lines: usize, cycle: 
     ensures { Repeated grid.width lines cycle grid.samples (grid.samples + count) cells.old cells.new }
 {
     for t in grid.samples..grid.samples + count {
-        repeat_sample(cells, grid.width, lines, cycle, t);
+        repeat_sample(cells, grid, lines, cycle, t);
     }
 }

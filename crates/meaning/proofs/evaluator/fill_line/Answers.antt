@@ -1,36 +1,51 @@
-use Rattle.std.proofs.Common.{suc, ap}
+use Rattle.std.proofs.Common.{rules, ◌≡◌, suc, get_or, ap, ◌∙◌, ap₂}
 use Rattle.recording.specs.Word.{meant}
 use Rattle.meaning.specs.Sheet.{before}
 use Rattle.meaning.specs.Cells.{column}
 use Rattle.meaning.specs.Columns.{carried, passes}
-use Rattle.meaning.proofs.Filling.{filled_as}
+use Rattle.meaning.proofs.Filling.{filled_as, row_column}
 use Rattle.meaning.proofs.Rows.{as_line}
 use Rattle.meaning.proofs.evaluator.fill_line.Goals as goal
 
 pub returns-in-Const : goal.returns-in-Const
 returns-in-Const g c =
     as_line g.R.Truth.Truth.kind (meant g.R.Truth.Truth.means (g.R.Recording.word c.args.recording.now)) c.args.grid.steady c.args.grid.samples
-    c.in-Const.is (filled_as (λ d t _ _. c.truth_of.ensures) c.fill_constant.ensures)
+    c.in-Const.is (c.fill.ensures _ (λ d row t r is below post. search rules))
 
 pub returns-in-Signal : goal.returns-in-Signal
 returns-in-Signal g c =
     as_line g.R.Truth.Truth.kind (meant g.R.Truth.Truth.means (g.R.Recording.word c.args.recording.now)) c.args.grid.steady c.args.grid.samples
-    c.in-Signal.is c.fill_signal.ensures
+    c.in-Signal.is (c.fill-in-Signal.ensures _ (λ d row t r is below post. search rules))
 
 pub returns-in-Not : goal.returns-in-Not
 returns-in-Not g c =
+    let K = g.R.Truth.Truth in
+    let lower = rw c.in-Not.is at c.requires.lower in
     as_line g.R.Truth.Truth.kind (meant g.R.Truth.Truth.means (g.R.Recording.word c.args.recording.now)) c.args.grid.steady c.args.grid.samples
-    c.in-Not.is c.fill_not.ensures
+    c.in-Not.is
+    (c.fill-in-Not.ensures _ (λ d row t r is below post.
+    let read : (x : g.row.R-Truth.Denot) × (x ≡ get_or row.now c.in-Not.a x) × (K.means r ≡ K.kind.Not (K.means x)) = search rules in
+    read.2 ∙ ap K.kind.Not (row_column K.means is c.in-Not.a lower read.0 read.1 d)))
 
 pub returns-in-And : goal.returns-in-And
 returns-in-And g c =
+    let K = g.R.Truth.Truth in
+    let lower = rw c.in-And.is at c.requires.lower in
     as_line g.R.Truth.Truth.kind (meant g.R.Truth.Truth.means (g.R.Recording.word c.args.recording.now)) c.args.grid.steady c.args.grid.samples
-    c.in-And.is c.fill_and.ensures
+    c.in-And.is
+    (c.fill-in-And.ensures _ (λ d row t r is below post.
+    let read : (l x : g.row.R-Truth.Denot) × (l ≡ get_or row.now c.in-And.a l) × (x ≡ get_or row.now c.in-And.b x) × (K.means r ≡ K.kind.And (K.means l) (K.means x)) = search rules in
+    read.4 ∙ ap₂ K.kind.And (row_column K.means is c.in-And.a lower.0 read.0 read.2 d) (row_column K.means is c.in-And.b lower.1 read.1 read.3 d)))
 
 pub returns-in-Or : goal.returns-in-Or
 returns-in-Or g c =
+    let K = g.R.Truth.Truth in
+    let lower = rw c.in-Or.is at c.requires.lower in
     as_line g.R.Truth.Truth.kind (meant g.R.Truth.Truth.means (g.R.Recording.word c.args.recording.now)) c.args.grid.steady c.args.grid.samples
-    c.in-Or.is c.fill_or.ensures
+    c.in-Or.is
+    (c.fill-in-Or.ensures _ (λ d row t r is below post.
+    let read : (l x : g.row.R-Truth.Denot) × (l ≡ get_or row.now c.in-Or.a l) × (x ≡ get_or row.now c.in-Or.b x) × (K.means r ≡ K.kind.Or (K.means l) (K.means x)) = search rules in
+    read.4 ∙ ap₂ K.kind.Or (row_column K.means is c.in-Or.a lower.0 read.0 read.2 d) (row_column K.means is c.in-Or.b lower.1 read.1 read.3 d)))
 
 pub returns-in-Next : goal.returns-in-Next
 returns-in-Next g c =

@@ -1,15 +1,16 @@
 use Rattle.std.proofs.Common.{◌≡◌, ◌-◌, ap, ◌∙◌, subst, ap₂, arith}
-use Rattle.meaning.proofs.Filling.{fills_none, read_as, filled_down, filled_as}
+use Rattle.meaning.proofs.Filling.{fills_none, read_column, filled_down, filled_as}
 use Rattle.meaning.proofs.Sweeps.{pass_down, pass_none}
 use Rattle.meaning.specs.Cells.{column, Fills}
 use Rattle.meaning.specs.Judging.{pass}
 use Rattle.meaning.proofs.forward.fill_until.Goals as goal
 
-pub read-l-requires : goal.read-l-requires
-read-l-requires g c = omega (arith, c.requires.0 (c.loop-t.t - 1) c.args.left (omega arith) (omega arith))
-
-pub read-r-requires : goal.read-r-requires
-read-r-requires g c = omega (arith, c.requires.0 (c.loop-t.t - 1) c.args.right (omega arith) (omega arith))
+pub carry-held-requires : goal.carry-held-requires
+carry-held-requires g c =
+    record {
+      left = omega (arith, c.requires.0 (c.loop-t.t - 1) c.args.left (omega arith) (omega arith));
+      right = omega (arith, c.requires.0 (c.loop-t.t - 1) c.args.right (omega arith) (omega arith));
+    }
 
 pub put-requires : goal.put-requires
 put-requires g c = omega (arith, c.requires.0 (c.loop-t.t - 1) c.args.line (omega arith) (omega arith))
@@ -22,9 +23,14 @@ loop-t-init g c = (
 
 pub loop-t-preserved : goal.loop-t-preserved
 loop-t-preserved g c =
-    let value : (d : g.row.T.Denot) → g.T.Truth.means c.or-held.result ≡ pass g.T.Truth.kind (column g.T.Truth.means c.args.cells.now c.args.grid.width c.args.left d) (column g.T.Truth.means c.args.cells.now c.args.grid.width c.args.right d) (c.loop-t.t - 1) (c.args.grid.samples - (c.loop-t.t - 1)) (g.T.Truth.means c.sweep-held.result) =
-    λ d. c.or-held.ensures ∙ ap₂ g.T.Truth.kind.Or (read_as (omega arith) c.loop-t.invariant.0 c.args.right (c.loop-t.t - 1) (omega arith) c.read-r.result c.read-r.ensures d) (c.and.ensures ∙ ap₂ g.T.Truth.kind.And (read_as (omega arith) c.loop-t.invariant.0 c.args.left (c.loop-t.t - 1) (omega arith) c.read-l.result c.read-l.ensures d) (c.loop-t.invariant.1 d))
-    ∙ pass_down g.T.Truth.kind (column g.T.Truth.means c.args.cells.now c.args.grid.width c.args.left d) (column g.T.Truth.means c.args.cells.now c.args.grid.width c.args.right d) c.args.grid.samples c.loop-t.t (g.T.Truth.means c.sweep-held.result) (omega arith) (omega arith) in
+    let K = g.T.Truth in
+    let left = λ (d : g.row.T.Denot). column K.means c.args.cells.now c.args.grid.width c.args.left d in
+    let right = λ (d : g.row.T.Denot). column K.means c.args.cells.now c.args.grid.width c.args.right d in
+    let value : (d : g.row.T.Denot) → K.means c.carry-held.result ≡ pass K.kind (left d) (right d) (c.loop-t.t - 1) (c.args.grid.samples - (c.loop-t.t - 1)) (K.means c.sweep-held.result) =
+    λ d. c.carry-held.ensures d
+    ∙ ap₂ K.kind.Or (read_column (omega arith) c.loop-t.invariant.0 c.args.right (c.loop-t.t - 1) (omega arith) d)
+    (ap₂ K.kind.And (read_column (omega arith) c.loop-t.invariant.0 c.args.left (c.loop-t.t - 1) (omega arith) d) (c.loop-t.invariant.1 d))
+    ∙ pass_down K.kind (left d) (right d) c.args.grid.samples c.loop-t.t (K.means c.sweep-held.result) (omega arith) (omega arith) in
     (filled_down (omega arith) (omega arith) (omega arith) (omega (arith, c.requires.0 (c.loop-t.t - 1) c.args.line (omega arith) (omega arith))) c.loop-t.invariant.0 c.put.ensures value, value)
 
 pub returns : goal.returns

@@ -1,25 +1,29 @@
-use Rattle.std.proofs.Common.{◌≡◌, ◌-◌, sym, ap, ◌∙◌, ap₂, arith}
+use Rattle.std.proofs.Common.{◌≡◌, ◌-◌, ap, ◌∙◌, arith}
 use Rattle.meaning.proofs.Sweeps.{pass_down, pass_none}
 use Rattle.meaning.specs.Cells.{column}
 use Rattle.meaning.specs.Judging.{pass}
 use Rattle.meaning.proofs.forward.sweep.Goals as goal
 
-pub read-l-requires : goal.read-l-requires
-read-l-requires g c = omega (arith, c.requires.0 (c.loop-t.t - 1) c.args.left (omega arith) (omega arith))
-
-pub read-r-requires : goal.read-r-requires
-read-r-requires g c = omega (arith, c.requires.0 (c.loop-t.t - 1) c.args.right (omega arith) (omega arith))
+pub carry-held-requires : goal.carry-held-requires
+carry-held-requires g c =
+    record {
+      left = omega (arith, c.requires.0 (c.loop-t.t - 1) c.args.left (omega arith) (omega arith));
+      right = omega (arith, c.requires.0 (c.loop-t.t - 1) c.args.right (omega arith) (omega arith));
+    }
 
 pub loop-t-init : goal.loop-t-init
 loop-t-init g c = (omega arith, λ d. pass_none g.T.Truth.kind (column g.T.Truth.means c.args.cells.now c.args.grid.width c.args.left d) (column g.T.Truth.means c.args.cells.now c.args.grid.width c.args.right d) c.args.grid.samples (g.T.Truth.means c.args.start))
 
 pub loop-t-preserved : goal.loop-t-preserved
-loop-t-preserved g c = (
-  omega arith,
-  λ d. c.or-held.ensures
-      ∙ ap₂ g.T.Truth.kind.Or (ap g.T.Truth.means (sym (c.read-r.ensures d))) (c.and.ensures ∙ ap₂ g.T.Truth.kind.And (ap g.T.Truth.means (sym (c.read-l.ensures d))) (c.loop-t.invariant.1 d))
-      ∙ pass_down g.T.Truth.kind (column g.T.Truth.means c.args.cells.now c.args.grid.width c.args.left d) (column g.T.Truth.means c.args.cells.now c.args.grid.width c.args.right d) c.args.grid.samples c.loop-t.t (g.T.Truth.means c.args.start) (omega arith) (omega arith),
-)
+loop-t-preserved g c =
+    let K = g.T.Truth in
+    let left = λ (d : g.row.T.Denot). column K.means c.args.cells.now c.args.grid.width c.args.left d in
+    let right = λ (d : g.row.T.Denot). column K.means c.args.cells.now c.args.grid.width c.args.right d in (
+      omega arith,
+      λ d. c.carry-held.ensures d
+          ∙ ap (λ z. K.kind.Or (right d (c.loop-t.t - 1)) (K.kind.And (left d (c.loop-t.t - 1)) z)) (c.loop-t.invariant.1 d)
+          ∙ pass_down K.kind (left d) (right d) c.args.grid.samples c.loop-t.t (K.means c.args.start) (omega arith) (omega arith),
+    )
 
 pub returns : goal.returns
 returns g c =

@@ -1,10 +1,10 @@
-use Rattle.std.proofs.Common.{◌+◌, sym, ap, ◌∙◌, ap₂, add-one, arith}
-use Rattle.sheet.specs.Table.{line, pasts}
-use Rattle.meaning.proofs.Rows.{past_most}
+use Rattle.std.proofs.Common.{rules, ◌≡◌, ◌∙◌, eqb}
+use Rattle.std.specs.List.{count_by}
+use Rattle.sheet.specs.Table.{past}
+use Rattle.meaning.proofs.Counting.{count_is}
 use Rattle.meaning.proofs.signals.count_back.Goals as goal
 
-pub loop-k-preserved : goal.loop-k-preserved
-loop-k-preserved c = (
-  ap₂ ◌+◌ c.loop-k.invariant.0 c.looks_back-count.ensures ∙ ap (pasts (line c.args.lines.now)) (sym (add-one c.loop-k.k)),
-  omega (arith, past_most (line c.args.lines.now c.loop-k.k), c.loop-k.invariant.1, c.looks_back-count.ensures),
-)
+pub returns : goal.returns
+returns c =
+    let counted : c.count.result ≡ count_by (λ x. eqb (past x) 1) c.args.lines.now = search rules in
+    counted ∙ count_is c.args.lines.now

@@ -1,6 +1,6 @@
 use Rattle.meaning.specs.Cells.{column, Fills}
 use Rattle.meaning.specs.Columns.{following}
-use Rattle.meaning.proofs.forward.fill_next.Given as goal
+use Rattle.meaning.proofs.pointwise.fill_next.Given as goal
 
 abbrev pub invariant-loop-t : goal.invariant-loop-t
 invariant-loop-t g l =

@@ -2,7 +2,7 @@ use Rattle.std.proofs.Common.{◌<◌, sym, ap, ◌∙◌, subst, arith}
 use Rattle.meaning.proofs.Filling.{filled_more, filled_all, read_as}
 use Rattle.meaning.proofs.Sweeps.{following_below}
 use Rattle.meaning.specs.Cells.{column}
-use Rattle.meaning.proofs.forward.fill_next.Goals as goal
+use Rattle.meaning.proofs.pointwise.fill_next.Goals as goal
 
 pub read-value-requires : goal.read-value-requires
 read-value-requires g c =

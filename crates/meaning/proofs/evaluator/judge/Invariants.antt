@@ -1,0 +1,27 @@
+use Rattle.std.proofs.Common.{◌≡◌, ℕ, ◌-◌, ◌*◌, ◌≤◌, length, get_or}
+use Rattle.meaning.proofs.Rows.{Columns}
+use Rattle.sheet.specs.Sheets.{sealed_lines}
+use Rattle.sheet.specs.Table.{line, pasts}
+use Rattle.meaning.proofs.Deep.{Deep, Reach, Steady}
+use Rattle.meaning.proofs.evaluator.judge.Given as goal
+
+abbrev pub invariant-loop-k : goal.invariant-loop-k
+invariant-loop-k g l =
+    let w = g.R.Recording.word l.recording in
+    let lines = sealed_lines l.sheet in
+    Columns g.R.Truth.Truth.kind g.R.Truth.Truth.means lines w l.grid.samples l.k l.cells
+    × ((i : ℕ) → length lines * l.extent.samples ≤ i → (d : g.row.R-Truth.Denot) → get_or l.cells i d ≡ get_or l.initial.cells i d)
+    × Reach lines w l.grid l.deepest
+    × Deep g.R.Truth.Truth.kind g.R.Truth.Truth.means lines w l.depths l.deepest l.k
+
+abbrev pub invariant-loop-grid : goal.invariant-loop-grid
+invariant-loop-grid g l =
+    let w = g.R.Recording.word l.recording in
+    let lines = sealed_lines l.sheet in
+    Columns g.R.Truth.Truth.kind g.R.Truth.Truth.means lines w l.grid.samples (length lines) l.cells
+    × ((i : ℕ) → length lines * l.extent.samples ≤ i → (d : g.row.R-Truth.Denot) → get_or l.cells i d ≡ get_or l.initial.cells i d)
+    × Steady g.R.Truth.Truth.kind g.R.Truth.Truth.means lines w l.grid.steady (length lines)
+    × ((n : ℕ) × Reach lines w l.grid n × (n ≤ pasts (line lines) (length lines)))
+
+abbrev pub decreases-loop-grid : goal.decreases-loop-grid
+decreases-loop-grid g l = l.extent.steady - l.grid.steady

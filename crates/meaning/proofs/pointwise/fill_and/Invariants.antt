@@ -1,7 +1,0 @@
-use Rattle.meaning.specs.Cells.{column, Fills}
-use Rattle.meaning.proofs.pointwise.fill_and.Given as goal
-
-abbrev pub invariant-loop-t : goal.invariant-loop-t
-invariant-loop-t g l =
-    let K = g.T.Truth in
-    Fills K.means l.grid.width l.line l.initial.cells (λ d t. K.kind.And (column K.means l.initial.cells l.grid.width l.left d t) (column K.means l.initial.cells l.grid.width l.right d t)) 0 l.t l.cells
