@@ -204,7 +204,7 @@ impl Work {
         ensures places { self.new.places ≡ slice_set self.old.places k (self.old.gate_count + (size line - 1)) }
     {
         let own = (self.gate_count + (size_of(line) - 1)) as u8;
-        if signs.plus | signs.minus {
+        if signs.is_used() {
             self.put_used(line, own, signs);
         }
         self.places[k] = own;

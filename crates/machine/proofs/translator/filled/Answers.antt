@@ -6,5 +6,8 @@ use Rattle.machine.proofs.translator.filled.Goals as goal
 
 pub loop-k-preserved : goal.loop-k-preserved
 loop-k-preserved c =
+    let l = c.lines-line-items.ensures in
     let e = c.put_line.ensures in
-    built_more c.args.lines.now c.loop-k.k c.loop-k.work c.put_line.new.self (get_or c.signs_of-signs.result c.loop-k.k unsigned) c.requires.0 (omega arith) (omega (arith, c.requires)) c.loop-k.invariant (fun_ext (c.signs_of-signs.ensures c.loop-k.k)) e.after e.gates e.variables e.pairs e.places
+    let before = rw (← l.are) at c.loop-k.invariant in
+    let signs = rw (← l.are) at (c.signs_in-signs.ensures c.loop-k.k) in
+    rw (← l.are) (built_more c.lines-line-items.result.now c.loop-k.k c.loop-k.work c.put_line.new.self (get_or c.signs_in-signs.result c.loop-k.k unsigned) l.sheet (omega arith) l.few before (fun_ext signs) e.after e.gates e.variables e.pairs e.places)

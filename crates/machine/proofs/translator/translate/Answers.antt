@@ -7,9 +7,9 @@ use Rattle.machine.proofs.translator.translate.Goals as goal
 pub invariant_of-machine : goal.invariant_of-machine
 invariant_of-machine c =
     let w = c.filled-work.result in
-    let ls = c.lines-lines.result.now in
-    let l = c.lines-lines.ensures in
-    let built = c.filled-work.ensures in
+    let ls = c.lines.result.now in
+    let l = c.lines.ensures in
+    let built = rw (← l.are) at c.filled-work.ensures in
     record {
       sized = w.sized;
       within = w.within;
@@ -21,9 +21,10 @@ invariant_of-machine c =
 
 pub returns : goal.returns
 returns c =
-    let ls = c.lines-lines.result.now in
-    let l = c.lines-lines.ensures in
+    let ls = c.lines.result.now in
+    let l = c.lines.ensures in
+    let built = rw (← l.are) at c.filled-work.ensures in
     record {
-      filled = held_is ls c.filled-work.result l.sheet l.some l.few c.filled-work.ensures ∙ ap translate l.are;
+      filled = held_is ls c.filled-work.result l.sheet l.some l.few built ∙ ap translate l.are;
       sound = subst Sound l.are (sound_of ls l.sheet l.some l.few);
     }
