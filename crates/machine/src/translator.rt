@@ -29,15 +29,9 @@ pub fn translate(sheet: &Sealed, machine: &mut Machine)
 {
     let work = filled(sheet);
     let root = work.places[sheet.lines().len() - 1];
-    let Work {
-        gates,
-        gate_count,
-        variables,
-        variable_count,
-        pairs,
-        pair_count,
-        places: _,
-    } = work;
+    let (gates, gate_count) = work.gates.into_parts();
+    let (variables, variable_count) = work.variables.into_parts();
+    let (pairs, pair_count) = work.pairs.into_parts();
     *machine = Machine {
         gates,
         gate_count,
