@@ -11,7 +11,8 @@ impl<T: Truth> Wave<T> {
     pub fn new(high: T, low: T, on: u32, off: u32) -> Option<Wave<T>>
         ensures { WaveMade high low on off result }
     {
-        if on > 64 || off > 64 - on || on + off < 1 {
+        let turn = on.checked_add(off)?;
+        if !(1..=64).contains(&turn) {
             return None;
         }
         Some(Wave { high, low, on, off })
