@@ -6,26 +6,24 @@ use Rattle.checker.specs.Moments.{MomentAt}
 use Rattle.laws.proofs.Endless.{after_in}
 use Rattle.checker.proofs.Walking.{Walked, walked_none, walked_more, passes_kept, accepted_passes, accepted_root, accepted_starts, accepted_met, all_accepted, getD_none}
 use Rattle.checker.proofs.check.accepts.Goals as goal
+use Rattle.checker.proofs.check.accepts.Goals.{then-not-first-root-via-then-not-first-root, then-not-first-root-via-else-not-first-root+then-not-all_start}
 
 pub returns-then-not-first-root : goal.returns-then-not-first-root
 returns-then-not-first-root g c =
     let m = c.args.machine.now in (
       λ e. absurd (false≢true e),
       λ a.
-          sym c.if-not-first-root.true
-          ∙ ap (λ r. get_or c.moment_of-first.result.values r false) c.root-root.ensures.is
-          ∙ accepted_root g.R.Truth.Truth.kind (tables m) c.root-root.ensures.sound.0 g.R.Truth.Truth.means (g.R.Recording.word c.args.recording.now) c.requires.named c.args.rows.now c.args.back c.requires.shape
-          c.moment_of-first.result c.moment_of-first.ensures a,
-    )
-
-pub returns-then-not-all_start : goal.returns-then-not-all_start
-returns-then-not-all_start g c =
-    let m = c.args.machine.now in (
-      λ e. absurd (false≢true e),
-      λ a.
-          c.if-not-all_start.ensures.1
-          (accepted_starts g.R.Truth.Truth.kind (tables m) c.root-root.ensures.sound.0 g.R.Truth.Truth.means (g.R.Recording.word c.args.recording.now) c.requires.named c.args.rows.now c.args.back c.requires.shape
-          c.moment_of-first.result c.moment_of-first.ensures a),
+          elim c.then-not-first-root.branch [
+            | then-not-first-root-via-then-not-first-root w ↦
+                (sym w.if-not-first-root.true
+                ∙ ap (λ r. get_or c.moment_of-first.result.values r false) c.root-root.ensures.is
+                ∙ accepted_root g.R.Truth.Truth.kind (tables m) c.root-root.ensures.sound.0 g.R.Truth.Truth.means (g.R.Recording.word c.args.recording.now) c.requires.named c.args.rows.now c.args.back c.requires.shape
+                c.moment_of-first.result c.moment_of-first.ensures a)
+            | then-not-first-root-via-else-not-first-root+then-not-all_start w ↦
+                (w.if-not-all_start.ensures.1
+                (accepted_starts g.R.Truth.Truth.kind (tables m) c.root-root.ensures.sound.0 g.R.Truth.Truth.means (g.R.Recording.word c.args.recording.now) c.requires.named c.args.rows.now c.args.back c.requires.shape
+                c.moment_of-first.result c.moment_of-first.ensures a))
+          ],
     )
 
 pub loop-i-init : goal.loop-i-init

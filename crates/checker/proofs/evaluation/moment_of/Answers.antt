@@ -11,18 +11,18 @@ use Rattle.checker.proofs.evaluation.moment_of.Goals as goal
 pub loop-k-preserved : goal.loop-k-preserved
 loop-k-preserved g c =
     let m = tables c.args.machine.now in
-    let gates = c.gates-gates.result.now in
-    let read = c.gates-gates.ensures in
+    let gates = c.gates-gate-items.result.now in
+    let read = c.gates-gate-items.ensures in
     let k = c.loop-k.k in
     let values = c.loop-k.values in
     let word = meant g.R.Truth.Truth.means (g.R.Recording.word c.args.recording.now) in
     let K = g.R.Truth.Truth.kind in
     let run = row_bits c.args.rows.now in
-    let b = c.gate_value-value.result in (
+    let b = c.gate_value.result in (
       length-set values k b ∙ c.loop-k.invariant.0,
       reads_set K word run (gate_at gates) (length m.variables) k c.args.i values b
           (omega (arith, c.loop-k.invariant.0, ap length read.are, read.sound.1.gates))
           (λ j h. subst (λ gs. GatesFit (length gs) (length m.variables) gs) (sym read.are) read.sound.0.gates j (omega arith))
           c.loop-k.invariant.1
-          (reads_run K word (λ j _. bit _ j) run (listed values) (gate_at gates k) c.args.i b (λ j. refl) c.gate_value-value.ensures),
+          (reads_run K word (λ j _. bit _ j) run (listed values) (gate_at gates k) c.args.i b (λ j. refl) c.gate_value.ensures),
     )
