@@ -7,7 +7,6 @@ use Rattle.recording.specs.Kind.{Kind, TwoValued}
 use Rattle.recording.specs.Tape.{bit}
 use Rattle.recording.specs.Word.{Word, meant}
 use Rattle.meaning.proofs.Build.{put, put_same, put_below}
-use Rattle.machine.specs.declared.gate.Gate.{Gate}
 use Rattle.machine.specs.declared.gate.Pair.{Pair}
 use Rattle.machine.specs.declared.gate.Variable.{Variable}
 use Rattle.machine.specs.declared.gate.Variable.TheVariants as variable
@@ -36,13 +35,13 @@ module _ (K : Kind) (only : TwoValued K) (m : Tables) (wired : Wired m) (word : 
       elim (dec_lt j k) [
         | yes less ↦
             (subst (λ b. Reads K word rows (bits_to (suc k)) (gate_at m.gates j) t b) (sym (kept j less))
-            (reads_moves K word rows (gate_at m.gates j) j (length m.variables) t (wired.gates j (omega arith)) (bits_to k) (bits_to (suc k))
+            (reads_moves K word rows rows (gate_at m.gates j) j (length m.variables) t (wired.gates j (omega arith)) (λ _. refl) (bits_to k) (bits_to (suc k))
             (λ a ha. sym (kept a (omega arith))) (bits_to k j t) (right_to k (omega arith) j less t)))
         | no more ↦
             (let e : j ≡ k = omega arith in
             subst (λ i. Reads K word rows (bits_to (suc k)) (gate_at m.gates i) t (bits_to (suc k) i t)) (sym e)
             (subst (λ b. Reads K word rows (bits_to (suc k)) (gate_at m.gates k) t b) (sym here)
-            (reads_moves K word rows (gate_at m.gates k) k (length m.variables) t (wired.gates k hk) (bits_to k) (bits_to (suc k))
+            (reads_moves K word rows rows (gate_at m.gates k) k (length m.variables) t (wired.gates k hk) (λ _. refl) (bits_to k) (bits_to (suc k))
             (λ a ha. sym (kept a ha)) (gate_bit (as_bits K only word) rows (bits_to k) (gate_at m.gates k) t)
             (bit_read K only m word rows (bits_to k) (gate_at m.gates k) t (gate_bit (as_bits K only word) rows (bits_to k) (gate_at m.gates k) t) refl))))
       ]
@@ -56,6 +55,21 @@ module _ (K : Kind) (only : TwoValued K) (m : Tables) (wired : Wired m) (word : 
   pub evaluated : (n : ℕ) → (g : Bits) × Evaluates K m word n rows g
   evaluated n = (bits_to (length m.gates), λ j hj t _. right_to (length m.gates) (omega arith) j hj t)
 
+-- the same gates' and variables' bits, the same equation and start
+equation_moves : (g h : Bits) (n : ℕ) (q p : ℕ → Bool) (t u t' u' : ℕ) → ((a : ℕ) → a < n → g a t ≡ h a t') → ((a : ℕ) → a < n → g a u ≡ h a u') → q t ≡ p t' → q u ≡ p u'
+    → (z : Variable) → variable_fits n z ≡ true → Equation g z q t u → Equation h z p t' u'
+equation_moves g h n q p t u t' u' at_t at_u here next (variable.Next a) fit e = let same = at_u a (ltb-true a n fit) in cc
+equation_moves g h n q p t u t' u' at_t at_u here next (variable.Until a b) fit e =
+    let names = and_parts (ltb a n) (ltb b n) fit in
+    let first = at_t a (ltb-true a n names.0) in
+    let second = at_t b (ltb-true b n names.1) in cc
+equation_moves g h n q p t u t' u' at_t at_u here next (variable.Back a s) fit e = let same = at_t a (ltb-true a n fit) in cc
+
+pub starts_move : (q p : ℕ → Bool) → q 0 ≡ p 0 → (z : Variable) → Starts z q → Starts z p
+starts_move q p same (variable.Next a) h = tt
+starts_move q p same (variable.Until a b) h = tt
+starts_move q p same (variable.Back a s) h = cc
+
 -- the moments of rows are what the gates' bits say
 module _ (K : Kind) (m : Tables) (wired : Wired m) (word : Word K.Value) (n : ℕ) (rows : List ℕ) (g : Bits) (ev : Evaluates K m word n (row_bits rows) g) where
   module _ (t : ℕ) (ht : t < n) (x : Moment) (shows : MomentAt K m.gates word rows t x) where
@@ -63,7 +77,7 @@ module _ (K : Kind) (m : Tables) (wired : Wired m) (word : Word K.Value) (n : �
     agrees_to zero j h hj = absurd (not-suc-le-zero h)
     agrees_to (suc l) j h hj =
         reads_one K word (row_bits rows) (gate_at m.gates j) t (listed x.values) (g j t) (get_or x.values j false)
-        (reads_moves K word (row_bits rows) (gate_at m.gates j) j (length m.variables) t (wired.gates j hj) g (listed x.values)
+        (reads_moves K word (row_bits rows) (row_bits rows) (gate_at m.gates j) j (length m.variables) t (wired.gates j hj) (λ _. refl) g (listed x.values)
         (λ a ha. agrees_to l a (omega arith) (omega arith)) (g j t) (ev j hj t ht))
         (shows.values j hj)
 
@@ -79,39 +93,15 @@ module _ (K : Kind) (m : Tables) (wired : Wired m) (word : Word K.Value) (n : �
         ap₂ (λ a b. not a || b) (sym (agrees p.from (ltb-true p.from (length m.gates) q.0))) (sym (agrees p.to (ltb-true p.to (length m.gates) q.1)))
 
   module _ (t u : ℕ) (ht : t < n) (hu : u < n) (x y : Moment) (here : MomentAt K m.gates word rows t x) (there : MomentAt K m.gates word rows u y) where
-    below : (a : ℕ) → ltb a (length m.gates) ≡ true → a < length m.gates
-    below a h = ltb-true a (length m.gates) h
-
     pub equation_told : (z : Variable) (j : ℕ) → variable_fits (length m.gates) z ≡ true → Equation g z (row_bits rows j) t u → Equation (gates_from x y) z (bits_from x y j) 0 1
-    equation_told (variable.Next a) j fit e = sym (row_is t ht x here j) ∙ e ∙ agrees u hu y there a (below a fit)
-    equation_told (variable.Until a b) j fit e =
-        let q = and_parts (ltb a (length m.gates)) (ltb b (length m.gates)) fit in
-        sym (row_is t ht x here j) ∙ e
-        ∙ ap₂ (λ c d. c || (d && row_bits rows j u)) (agrees t ht x here b (below b q.1)) (agrees t ht x here a (below a q.0))
-        ∙ ap (λ d. get_or x.values b false || (get_or x.values a false && d)) (row_is u hu y there j)
-    equation_told (variable.Back a s) j fit e = sym (row_is u hu y there j) ∙ e ∙ agrees t ht x here a (below a fit)
+    equation_told z j fit =
+        equation_moves g (gates_from x y) (length m.gates) (row_bits rows j) (bits_from x y j) t u 0 1 (agrees t ht x here) (agrees u hu y there)
+        (row_is t ht x here j) (row_is u hu y there j) z fit
 
     pub equation_tells : (z : Variable) (j : ℕ) → variable_fits (length m.gates) z ≡ true → Equation (gates_from x y) z (bits_from x y j) 0 1 → Equation g z (row_bits rows j) t u
-    equation_tells (variable.Next a) j fit e = row_is t ht x here j ∙ e ∙ sym (agrees u hu y there a (below a fit))
-    equation_tells (variable.Until a b) j fit e =
-        let q = and_parts (ltb a (length m.gates)) (ltb b (length m.gates)) fit in
-        row_is t ht x here j ∙ e
-        ∙ ap₂ (λ c d. c || (d && bit y.row j)) (sym (agrees t ht x here b (below b q.1))) (sym (agrees t ht x here a (below a q.0)))
-        ∙ ap (λ d. g b t || (g a t && d)) (sym (row_is u hu y there j))
-    equation_tells (variable.Back a s) j fit e = row_is u hu y there j ∙ e ∙ sym (agrees t ht x here a (below a fit))
-
--- the first row, where a variable starts
-pub starts_told : (K : Kind) (gates : List Gate) (word : Word K.Value) (rows : List ℕ) (x : Moment) → MomentAt K gates word rows 0 x → (z : Variable) (j : ℕ)
-    → Starts z (row_bits rows j) → Starts z (bits_from x x j)
-starts_told K gates word rows x shows (variable.Next a) j h = tt
-starts_told K gates word rows x shows (variable.Until a b) j h = tt
-starts_told K gates word rows x shows (variable.Back a s) j h = ap (λ z. bit z j) shows.row ∙ h
-
-pub starts_tell : (K : Kind) (gates : List Gate) (word : Word K.Value) (rows : List ℕ) (x : Moment) → MomentAt K gates word rows 0 x → (z : Variable) (j : ℕ)
-    → Starts z (bits_from x x j) → Starts z (row_bits rows j)
-starts_tell K gates word rows x shows (variable.Next a) j h = tt
-starts_tell K gates word rows x shows (variable.Until a b) j h = tt
-starts_tell K gates word rows x shows (variable.Back a s) j h = ap (λ z. bit z j) (sym shows.row) ∙ h
+    equation_tells z j fit =
+        equation_moves (gates_from x y) g (length m.gates) (bits_from x y j) (row_bits rows j) 0 1 t u (λ a h. sym (agrees t ht x here a h)) (λ a h. sym (agrees u hu y there a h))
+        (sym (row_is t ht x here j)) (sym (row_is u hu y there j)) z fit
 
 met_bits : (a b : Bool) → (not a || b) ≡ true → Met a b
 met_bits true b e = inr e
@@ -234,7 +224,7 @@ module _ (K : Kind) (m : Tables) (wired : Wired m) {V : Type 0} (means : V → K
         sym (agrees K m wired (meant means w) (length rows) rows c.0 c.1.gates 0 shape.some first shows m.root wired.root) ∙ c.1.root
 
     pub accepted_starts : Accepted K means m w rows back → (j : ℕ) → j < length m.variables → Starts (variable_at m.variables j) (bits_from first first j)
-    accepted_starts a j hj = starts_told K m.gates (meant means w) rows first shows (variable_at m.variables j) j ((accepted_passes a).1.starts j hj)
+    accepted_starts a j hj = starts_move (row_bits rows j) (bits_from first first j) (ap (λ z. bit z j) (sym shows.row)) (variable_at m.variables j) ((accepted_passes a).1.starts j hj)
 
     module _ (here : Moment) (met : List Bool) (walked : Walked K m (meant means w) rows back (length rows) here met) where
       pub accepted_met : Accepted K means m w rows back → (j : ℕ) → j < length m.pairs → get_or met j false ≡ true
@@ -249,7 +239,7 @@ module _ (K : Kind) (m : Tables) (wired : Wired m) {V : Type 0} (means : V → K
             e.0,
             record {
               gates = e.1;
-              starts = λ j hj. starts_tell K m.gates (meant means w) rows first shows (variable_at m.variables j) j (starts j hj);
+              starts = λ j hj. starts_move (bits_from first first j) (row_bits rows j) (ap (λ z. bit z j) shows.row) (variable_at m.variables j) (starts j hj);
               equations = λ j hj t ht. walked.equations e.0 e.1 t ht j hj;
               root = agrees K m wired (meant means w) (length rows) rows e.0 e.1 0 shape.some first shows m.root wired.root ∙ root;
               fair = λ j hj. (walked.pairs e.0 e.1 j hj).0 (fair j hj);
