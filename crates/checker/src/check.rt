@@ -79,8 +79,10 @@ where
     if !first.values[root as usize] || !all_start(machine, &first) {
         return false;
     }
+    // one for each pair, in front of unused ones: the check allocates nothing
     let mut met = [false; 64];
     let mut here = first;
+    // by index: what is read is the row that comes after row i
     for i in 0..rows.len() {
         note_met(machine, &here, back <= i, &mut met);
         let next = after_row(rows.len(), back, i);

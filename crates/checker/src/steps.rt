@@ -71,6 +71,7 @@ fn meets(pair: Pair, here: &Moment) -> bool
 pub(crate) fn note_met(machine: &Machine, here: &Moment, counts: bool, met: &mut [bool; 64])
     ensures { (j : ℕ) → j < length (tables machine.now).pairs → slice_index_or met.new j false ≡ (slice_index_or met.old j false || (counts && is_met (pair_at (tables machine.now).pairs j) here.now)) }
 {
+    // by index: what a zip over `iter_mut` has written is not known after it
     for (k, pair) in machine.pairs().iter().enumerate() {
         met[k] |= counts & meets(*pair, here);
     }

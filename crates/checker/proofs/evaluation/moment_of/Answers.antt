@@ -20,7 +20,7 @@ loop-k-preserved g c =
     let run = row_bits c.args.rows.now in
     let b = c.gate_value.result in
     let fits : (j : ℕ) → j < k + 1 → gate_fits j (length m.variables) (gate_at gates j) ≡ true =
-        λ j h. subst (λ gs. GatesFit (length gs) (length m.variables) gs) (sym read.are) read.sound.0.gates j (omega arith) in (
+    λ j h. subst (λ gs. GatesFit (length gs) (length m.variables) gs) (sym read.are) read.sound.0.gates j (omega arith) in (
       length-set values k b ∙ c.loop-k.invariant.0,
       reads_set K word run (gate_at gates) (length m.variables) k c.args.i values b
           (omega (arith, c.loop-k.invariant.0, ap length read.are, read.sound.1.gates))

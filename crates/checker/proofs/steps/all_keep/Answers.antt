@@ -22,7 +22,7 @@ pub all-requires-clause-callable : goal.all-requires-clause-callable
 all-requires-clause-callable c =
     let m = tables c.args.machine.now in
     let fit : All (λ z. variable_fits 192 z ≡ true) c.variables.result.now =
-        subst (All (λ z. variable_fits 192 z ≡ true)) (sym c.variables.ensures.are)
-        (All-from_get_or (λ z. variable_fits 192 z ≡ true) m.variables (variable.Next 0)
-        (λ j h. wider (length m.gates) 192 c.variables.ensures.sound.1.gates (variable_at m.variables j) (c.variables.ensures.sound.0.variables j h))) in
+    subst (All (λ z. variable_fits 192 z ≡ true)) (sym c.variables.ensures.are)
+    (All-from_get_or (λ z. variable_fits 192 z ≡ true) m.variables (variable.Next 0)
+    (λ j h. wider (length m.gates) 192 c.variables.ensures.sound.1.gates (variable_at m.variables j) (c.variables.ensures.sound.0.variables j h))) in
     grind (serving, fit)
