@@ -14,7 +14,7 @@ use machine::place::Machine;
 use recording::recording::Recording;
 use recording::truth::TwoValued;
 
-// Bit `place` of a row.
+// Bit `place` of a row. A public one, for masks too, would have to test `place` at each call.
 pub(crate) fn bit_of(row: u64, place: usize) -> bool
     requires { place < 64 }
     ensures { result ≡ bit row place }

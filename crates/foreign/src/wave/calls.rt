@@ -40,7 +40,7 @@ impl<T: Truth> Recording for Wave<T> {
         if signal > 0 {
             return None;
         }
-        if sample % (self.on + self.off) < self.on {
+        if sample % self.cycle() < self.on {
             Some(self.high)
         } else {
             Some(self.low)
