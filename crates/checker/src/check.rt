@@ -19,21 +19,21 @@ use recording::truth::{Truth, TwoValued};
 fn ask<R: Recording>(gate: Gate, recording: &R) -> Result<(), CheckRefusal>
     ensures { MatchResult result (λ _. Names (R.word recording.now).signals gate) (λ e. (e ≡ NoSignal) × (Names (R.word recording.now).signals gate → ⊥)) }
 {
-    match gate {
-        Gate::Signal(signal) => match recording.value(signal as u32, 0) {
-            Some(_) => Ok(()),
-            None => Err(CheckRefusal::NoSignal),
-        },
-        Gate::Const(_) | Gate::Var(_) | Gate::Not(_) | Gate::And(_, _) | Gate::Or(_, _) => Ok(()),
-    }
+    let Gate::Signal(signal) = gate else {
+        return Ok(());
+    };
+    recording
+        .value(signal as u32, 0)
+        .map(|_| ())
+        .ok_or(CheckRefusal::NoSignal)
 }
 
 // Asks for the signals of all gates.
 fn ask_all<R: Recording>(gates: &[Gate], recording: &R) -> Result<(), CheckRefusal>
     ensures { MatchResult result (λ _. HasGateSignals gates.now (R.word recording.now).signals) (λ e. (e ≡ NoSignal) × (HasGateSignals gates.now (R.word recording.now).signals → ⊥)) }
 {
-    for k in 0..gates.len() {
-        ask(gates[k], recording)?;
+    for gate in gates {
+        ask(*gate, recording)?;
     }
     Ok(())
 }
@@ -42,10 +42,9 @@ fn ask_all<R: Recording>(gates: &[Gate], recording: &R) -> Result<(), CheckRefus
 fn has_shape<R: Recording>(recording: &R, n: usize, back: usize) -> bool
     ensures { Decides result (Shape (R.word recording.now) n back) }
 {
-    if n == 0 || n > 4352 || back >= n || back < recording.stem() as usize {
-        return false;
-    }
-    (n - back) % recording.cycle() as usize == 0
+    n <= 4352
+        && (recording.stem() as usize..n).contains(&back)
+        && (n - back) % recording.cycle() as usize == 0
 }
 
 // Whether no row has a bit at or above the variable count.
@@ -54,12 +53,7 @@ fn no_stray(rows: &[u64], variables: usize) -> bool
     ensures { Decides result (Within variables rows.now) }
 {
     let limit = 1u128 << variables;
-    for row in rows {
-        if *row as u128 >= limit {
-            return false;
-        }
-    }
-    true
+    rows.iter().all(|row| u128::from(*row) < limit)
 }
 
 // The row that comes after row i of n.
@@ -82,14 +76,13 @@ where
     let _ = R::Truth::no().is_yes();
     let root = machine.root();
     let first = moment_of(machine, recording, rows, 0);
-    if !first.values[root as usize] {
+    if !first.values[root as usize] || !all_start(machine, &first) {
         return false;
     }
-    if !all_start(machine, &first) {
-        return false;
-    }
+    // one for each pair, in front of unused ones: the check allocates nothing
     let mut met = [false; 64];
     let mut here = first;
+    // by index: what is read is the row that comes after row i
     for i in 0..rows.len() {
         note_met(machine, &here, back <= i, &mut met);
         let next = after_row(rows.len(), back, i);

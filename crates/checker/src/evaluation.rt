@@ -14,7 +14,7 @@ use machine::place::Machine;
 use recording::recording::Recording;
 use recording::truth::TwoValued;
 
-// Bit `place` of a row.
+// Bit `place` of a row. A public one, for masks too, would have to test `place` at each call.
 pub(crate) fn bit_of(row: u64, place: usize) -> bool
     requires { place < 64 }
     ensures { result ≡ bit row place }
@@ -38,10 +38,7 @@ where
 {
     match gate {
         Gate::Const(bit) => bit,
-        Gate::Signal(signal) => match recording.value(signal as u32, sample) {
-            Some(value) => value.is_yes(),
-            None => unreachable(),
-        },
+        Gate::Signal(signal) => recording.value(signal as u32, sample).unwrap().is_yes(),
         Gate::Var(variable) => bit_of(row, variable as usize),
         Gate::Not(a) => !values[a as usize],
         Gate::And(a, b) => values[a as usize] & values[b as usize],
@@ -63,12 +60,10 @@ where
     requires few { length rows.now ≤ 4352 }
     ensures { MomentAt R.Truth.Truth.kind (tables machine.now).gates (meant R.Truth.Truth.means (R.Recording.word recording.now)) rows.now i result }
 {
-    let gates = machine.gates();
     let row = rows[i];
     let mut values = [false; 192];
-    for k in 0..gates.len() {
-        let value = gate_value(gates[k], recording, i as u32, row, &values);
-        values[k] = value;
+    for (k, gate) in machine.gates().iter().enumerate() {
+        values[k] = gate_value(*gate, recording, i as u32, row, &values);
     }
     Moment { row, values }
 }

@@ -25,13 +25,11 @@ fn starts(variable: Variable, j: usize, first: &Moment) -> bool
 pub(crate) fn all_start(machine: &Machine, first: &Moment) -> bool
     ensures { Decides result ((j : ℕ) → j < length (tables machine.now).variables → Starts (variable_at (tables machine.now).variables j) (bits_from first.now first.now j)) }
 {
-    let variables = machine.variables();
-    for j in 0..variables.len() {
-        if !starts(variables[j], j, first) {
-            return false;
-        }
-    }
-    true
+    machine
+        .variables()
+        .iter()
+        .enumerate()
+        .all(|(j, variable)| starts(*variable, j, first))
 }
 
 // Whether variable j keeps its equation from one moment to the next.
@@ -54,13 +52,11 @@ fn keeps(variable: Variable, j: usize, here: &Moment, there: &Moment) -> bool
 pub(crate) fn all_keep(machine: &Machine, here: &Moment, there: &Moment) -> bool
     ensures { Decides result ((j : ℕ) → j < length (tables machine.now).variables → Equation (gates_from here.now there.now) (variable_at (tables machine.now).variables j) (bits_from here.now there.now j) 0 1) }
 {
-    let variables = machine.variables();
-    for j in 0..variables.len() {
-        if !keeps(variables[j], j, here, there) {
-            return false;
-        }
-    }
-    true
+    machine
+        .variables()
+        .iter()
+        .enumerate()
+        .all(|(j, variable)| keeps(*variable, j, here, there))
 }
 
 // Whether the pair is met at a moment.
@@ -75,10 +71,9 @@ fn meets(pair: Pair, here: &Moment) -> bool
 pub(crate) fn note_met(machine: &Machine, here: &Moment, counts: bool, met: &mut [bool; 64])
     ensures { (j : ℕ) → j < length (tables machine.now).pairs → slice_index_or met.new j false ≡ (slice_index_or met.old j false || (counts && is_met (pair_at (tables machine.now).pairs j) here.now)) }
 {
-    let pairs = machine.pairs();
-    for k in 0..pairs.len() {
-        let is_met = met[k] | (counts & meets(pairs[k], here));
-        met[k] = is_met;
+    // by index: what a zip over `iter_mut` has written is not known after it
+    for (k, pair) in machine.pairs().iter().enumerate() {
+        met[k] |= counts & meets(*pair, here);
     }
 }
 
@@ -86,10 +81,5 @@ pub(crate) fn note_met(machine: &Machine, here: &Moment, counts: bool, met: &mut
 pub(crate) fn all_met(machine: &Machine, met: &[bool; 64]) -> bool
     ensures { Decides result ((j : ℕ) → j < length (tables machine.now).pairs → slice_index_or met.now j false ≡ true) }
 {
-    for j in 0..machine.pairs().len() {
-        if !met[j] {
-            return false;
-        }
-    }
-    true
+    met[..machine.pairs().len()].iter().all(|is_met| *is_met)
 }

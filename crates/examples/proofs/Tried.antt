@@ -1,13 +1,5 @@
 -- The worked examples, by computing the valuation that every other equals.
-use mathlib.Core.Bool.{true, false}
-use mathlib.Core.Path.{◌≡◌, refl, sym, ◌∙◌, subst}
-use mathlib.Core.Logic.{inl, inr, ◌↔◌}
-use mathlib.Core.List.{List}
-use Prim.Native.Nat.{ℕ, zero, suc, ◌+◌, ◌≤◌, ◌<◌}
-use native.Mathlib.Nat.{add-zero, zero-add, add-suc, suc-add, not-suc-le-zero}
-use native.Mathlib.Omega.{arith}
-use lib.Dec.{lit<}
-use lib.ListN.{length}
+use Rattle.std.proofs.Common.{◌≡◌, ℕ, zero, suc, ◌+◌, ◌≤◌, ◌<◌, true, false, List, length, ◌↔◌, inl, inr, refl, sym, ◌∙◌, subst, add-zero, zero-add, add-suc, suc-add, not-suc-le-zero, lit<, arith}
 use Rattle.recording.specs.Kind.{Kind, TwoValued}
 use Rattle.recording.specs.Kinds.{two, three}
 use Rattle.recording.specs.Word.{Word}

@@ -10,6 +10,7 @@ use recording::truth::{Truth, TwoValued};
 #[derive(Clone, Copy, PartialEq, Eq, Debug)]
 pub struct Level(pub u8);
 
+#[tactic(auto, using(crate::specs::Levels::same))]
 impl Truth for Level {
     ghost kind = { levels };
 
@@ -24,24 +25,20 @@ impl Truth for Level {
     }
 
     fn and(self, other: Level) -> Level {
-        if self.0 < other.0 { self } else { other }
+        Level(self.0.min(other.0))
     }
 
     fn or(self, other: Level) -> Level {
-        if self.0 < other.0 { other } else { self }
+        Level(self.0.max(other.0))
     }
 
     fn not(self) -> Level {
-        if self.0 < 100 {
-            Level(100 - self.0)
-        } else {
-            Level(0)
-        }
+        Level(100u8.saturating_sub(self.0))
     }
 }
 
 /// A lamp that is off or on, as a two-valued kind.
-#[derive(Clone, Copy, PartialEq, Eq, Debug)]
+#[derive(Clone, Copy, PartialEq, Eq, PartialOrd, Ord, Debug)]
 pub enum Flag {
     Off,
     On,
@@ -61,17 +58,11 @@ impl Truth for Flag {
     }
 
     fn and(self, other: Flag) -> Flag {
-        match self {
-            Flag::Off => Flag::Off,
-            Flag::On => other,
-        }
+        self.min(other)
     }
 
     fn or(self, other: Flag) -> Flag {
-        match self {
-            Flag::Off => other,
-            Flag::On => Flag::On,
-        }
+        self.max(other)
     }
 
     fn not(self) -> Flag {

@@ -1,3 +1,5 @@
+ghost use Rattle.std.specs.Prelude.{◌≡◌};
+ghost use Rattle.foreign.specs.declared.once.Fault.TheVariants.{Sealing, Judging};
 ghost use Rattle.foreign.specs.Once.{JudgedOnce};
 ghost use Rattle.sheet.specs.Sheets.{lines_of};
 
@@ -7,12 +9,30 @@ use recording::recording::Recording;
 use recording::truth::Truth;
 use sheet::draft::Draft;
 use sheet::refusal::Refusal as NotSealed;
+use sheet::sealed::Unsealed;
 
 /// Why a draft is not judged.
-#[derive(Clone, Copy)]
+#[derive(Clone, Copy, PartialEq, Eq, Debug)]
 pub enum Fault {
     Sealing(NotSealed),
     Judging(NotJudged),
+}
+
+impl From<Unsealed> for Fault {
+    ghost from_gives = { λ back fault. fault ≡ Sealing back.refusal };
+
+    /// Why the draft is not sealed; the draft is let go.
+    fn from(back: Unsealed) -> Fault {
+        Fault::Sealing(back.refusal)
+    }
+}
+
+impl From<NotJudged> for Fault {
+    ghost from_gives = { λ refusal fault. fault ≡ Judging refusal };
+
+    fn from(refusal: NotJudged) -> Fault {
+        Fault::Judging(refusal)
+    }
 }
 
 /// Judges a draft by sealing it first, and lets it go.
@@ -23,11 +43,6 @@ pub fn judge_once<R: Recording>(
 ) -> Result<R::Truth, Fault>
     ensures { JudgedOnce R.Truth.Truth.kind R.Truth.Truth.means (lines_of draft) (R.Recording.word recording.now) cells.old cells.new result }
 {
-    match draft.seal() {
-        Ok(sealed) => match judge(&sealed, recording, cells) {
-            Ok(answer) => Ok(answer),
-            Err(refusal) => Err(Fault::Judging(refusal)),
-        },
-        Err(back) => Err(Fault::Sealing(back.refusal)),
-    }
+    let sealed = draft.seal()?;
+    Ok(judge(&sealed, recording, cells)?)
 }

@@ -18,29 +18,20 @@ use std::test::Fail;
 // The sheet of these codes and operands.
 fn sheet_of(lines: &[[u8; 3]]) -> Result<Sealed, Fail> {
     let mut draft = Draft::new();
-    for line in lines {
-        draft.write(line[0], line[1], line[2])?;
+    for &[code, a, b] in lines {
+        draft.write(code, a, b)?;
     }
-    match draft.seal() {
-        Ok(sealed) => Ok(sealed),
-        Err(_) => Err(Fail::new("no line")),
-    }
+    draft.seal().map_err(|_| Fail::new("no line"))
 }
 
 // 0 for a tape, else the number of the refusal.
 fn tape_refused(signals: u32, stem: u32, cycle: u32, masks: &[u32]) -> u8 {
-    match Tape::new(signals, stem, cycle, masks) {
-        Ok(_) => 0,
-        Err(refusal) => refusal.number(),
-    }
+    Tape::new(signals, stem, cycle, masks).map_or_else(TapeRefusal::number, |_| 0)
 }
 
 // 0 for a wheel, else the number of the refusal.
 fn wheel_refused(teeth: u32, gap: u32, start: u32) -> u8 {
-    match Wheel::new(teeth, gap, start) {
-        Ok(_) => 0,
-        Err(refusal) => refusal.number(),
-    }
+    Wheel::new(teeth, gap, start).map_or_else(WheelRefusal::number, |_| 0)
 }
 
 // What a recording of bits answers: signal, sample, value.
@@ -49,8 +40,8 @@ fn answers<R: Recording<Truth = bool>>(
     recording: &R,
     values: &[(u32, u32, Option<bool>)],
 ) {
-    for one in values {
-        assert_eq!(rt; recording.value(one.0, one.1), one.2);
+    for &(signal, sample, value) in values {
+        assert_eq!(rt; recording.value(signal, sample), value);
     }
 }
 
@@ -74,14 +65,14 @@ fn tape_ranges(rt: HostRuntime) {
         [2, 2, 3, 5, 4, 10],
         [31, 0, 1, 1, 0x8000_0000, 10],
     ];
-    for tape in tapes {
-        let count = tape[3] as usize;
+    for [signals, stem, cycle, count, last, number] in tapes {
+        let count = count as usize;
         let mut masks = [0; 320];
         assert!(rt; count > 0 && count <= 320);
-        masks[count - 1] = tape[4];
+        masks[count - 1] = last;
         assert_eq!(rt;
-            tape_refused(tape[0], tape[1], tape[2], &masks[0..count]) as u32,
-            tape[5]
+            tape_refused(signals, stem, cycle, &masks[..count]) as u32,
+            number
         );
     }
 }
@@ -117,8 +108,8 @@ fn gapped_tapes(rt: HostRuntime) -> Result<(), Fail> {
         (1, 3, Some(Ternary::No)),
         (2, 3, None),
     ];
-    for one in values {
-        assert_eq!(rt; tape.value(one.0, one.1), one.2);
+    for (signal, sample, value) in values {
+        assert_eq!(rt; tape.value(signal, sample), value);
     }
     assert!(rt; GappedTape::new(2, 0, 2, &[3, 1], &[1]).is_err());
     assert!(rt; GappedTape::new(2, 0, 2, &[3, 1], &[1, 4]).is_err());
@@ -139,11 +130,8 @@ fn wheels(rt: HostRuntime) -> Result<(), Fail> {
         [60, 60, 0, 11],
         [60, 2, 60, 11],
     ];
-    for wheel in wheels {
-        assert_eq!(rt;
-            wheel_refused(wheel[0], wheel[1], wheel[2]) as u32,
-            wheel[3]
-        );
+    for [teeth, gap, start, number] in wheels {
+        assert_eq!(rt; wheel_refused(teeth, gap, start) as u32, number);
     }
     let wheel = Wheel::new(60, 2, 0)?;
     assert!(rt; wheel.signals() == 2 && wheel.stem() == 0 && wheel.cycle() == 60);
@@ -227,13 +215,11 @@ fn refuses(rt: HostRuntime) -> Result<(), Fail> {
     assert!(rt; !cells[0] && cells[1] && !cells[2], "the cells stay");
     assert_eq!(rt; Refusal::NoSignal.number(), 5);
     assert_eq!(rt; Refusal::TooFewCells.number(), 6);
-    match judge_once(Draft::new(), &still, &mut cells) {
-        Err(Fault::Sealing(refusal)) => {
-            assert_eq!(rt; refusal.number(), 4);
-            Ok(())
-        },
-        _ => Err(Fail::new("an empty draft was judged")),
-    }
+    let Err(Fault::Sealing(refusal)) = judge_once(Draft::new(), &still, &mut cells) else {
+        return Err(Fail::new("an empty draft was judged"));
+    };
+    assert_eq!(rt; refusal.number(), 4);
+    Ok(())
 }
 
 // 63 lines that look back on the longest tape: 4,352 samples of 64 lines.
@@ -244,9 +230,7 @@ fn judges_the_largest(rt: HostRuntime) -> Result<(), Fail> {
     for k in 0..63 {
         draft.write(8, k, 0)?;
     }
-    let Ok(sheet) = draft.seal() else {
-        return Err(Fail::new("no line"));
-    };
+    let sheet = draft.seal().map_err(|_| Fail::new("no line"))?;
     let tape = Tape::new(1, 256, 64, &[1; 320])?;
     let mut cells = vec![in rt.alloc(); true; 278529]?;
     assert!(rt; cells.len() == 278529);

@@ -10,16 +10,14 @@ use std::test::Fail;
 // The machine of the sheet crank, oil and these lines.
 fn machine_of(lines: &[(u8, u8, u8)]) -> Result<Machine, Fail> {
     let mut draft = Draft::new();
-    let _ = draft.write(1, 0, 0);
-    let _ = draft.write(1, 1, 0);
-    for line in lines {
-        let _ = draft.write(line.0, line.1, line.2);
+    draft.write(1, 0, 0)?;
+    draft.write(1, 1, 0)?;
+    for &(code, a, b) in lines {
+        draft.write(code, a, b)?;
     }
+    let sealed = draft.seal().map_err(|_| Fail::new("no line"))?;
     let mut machine = Machine::new();
-    match draft.seal() {
-        Ok(sealed) => translate(&sealed, &mut machine),
-        Err(_) => return Err(Fail::new("no line")),
-    }
+    translate(&sealed, &mut machine);
     Ok(machine)
 }
 

@@ -11,7 +11,8 @@ impl<T: Truth> Wave<T> {
     pub fn new(high: T, low: T, on: u32, off: u32) -> Option<Wave<T>>
         ensures { WaveMade high low on off result }
     {
-        if on > 64 || off > 64 - on || on + off < 1 {
+        let turn = on.checked_add(off)?;
+        if !(1..=64).contains(&turn) {
             return None;
         }
         Some(Wave { high, low, on, off })
@@ -39,7 +40,7 @@ impl<T: Truth> Recording for Wave<T> {
         if signal > 0 {
             return None;
         }
-        if sample % (self.on + self.off) < self.on {
+        if sample % self.cycle() < self.on {
             Some(self.high)
         } else {
             Some(self.low)

@@ -3,5 +3,5 @@ use Rattle.laws.specs.Checks.{Names}
 use Rattle.machine.specs.Tables.{gate_at}
 use Rattle.checker.proofs.check.ask_all.Given as goal
 
-abbrev pub invariant-loop-k : goal.invariant-loop-k
-invariant-loop-k g l = (j : ℕ) → j < l.k → Names (g.R.Recording.word l.recording).signals (gate_at l.gates j)
+abbrev pub invariant-loop-gate : goal.invariant-loop-gate
+invariant-loop-gate g l = (j : ℕ) → j < l.gate-index → Names (g.R.Recording.word l.recording).signals (gate_at l.gates j)

@@ -10,4 +10,4 @@ invariant-loop-k g l =
     (length l.values ≡ 192)
     × ((j : ℕ) → j < l.k
     → Reads g.R.Truth.Truth.kind (meant g.R.Truth.Truth.means (g.R.Recording.word l.recording)) (row_bits l.rows) (listed l.values)
-    (gate_at l.gates j) l.i (get_or l.values j false))
+    (gate_at l.gate-items j) l.i (get_or l.values j false))

@@ -6,5 +6,5 @@ use Rattle.checker.proofs.steps.note_met.Given as goal
 abbrev pub invariant-loop-k : goal.invariant-loop-k
 invariant-loop-k l =
     (length l.met ≡ 64)
-    × ((p : ℕ) → p < l.k → get_or l.met p false ≡ (get_or l.initial.met p false || (l.counts && is_met (pair_at l.pairs p) l.here)))
+    × ((p : ℕ) → p < l.k → get_or l.met p false ≡ (get_or l.initial.met p false || (l.counts && is_met (pair_at l.pair-items p) l.here)))
     × ((p : ℕ) → l.k ≤ p → get_or l.met p false ≡ get_or l.initial.met p false)
