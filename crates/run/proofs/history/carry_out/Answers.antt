@@ -22,9 +22,9 @@ loop-i-preserved g c =
     let e : ledger_of c.perform-stepped.result.sheet ≡ after l (take (c.loop-i.i + 1) c.args.calls.now) =
     ledger_more l c.args.calls.now c.loop-i.i (Write 0 0 0) (ledger_of c.loop-i.sheet) (ledger_of c.perform-stepped.result.sheet) here c.loop-i.invariant.0 c.perform-stepped.ensures.ledger in (
       e,
-      story_more _ _ l _ _ _ c.args.calls.now c.loop-i.answers c.loop-i.i (Write 0 0 0) c.perform-stepped.result.answer (ledger_of c.loop-i.sheet) c.note.new.items c.note.ensures
+      story_more _ _ l _ _ _ c.args.calls.now c.loop-i.answers c.loop-i.i (Write 0 0 0) c.perform-stepped.result.answer (ledger_of c.loop-i.sheet) _ refl
           here room c.loop-i.invariant.0 c.loop-i.invariant.1 c.perform-stepped.ensures.tells,
-      drop_more c.args.answers.now c.loop-i.answers c.note.new.items c.loop-i.i c.perform-stepped.result.answer c.note.ensures c.loop-i.invariant.2,
+      drop_more c.args.answers.now c.loop-i.answers _ c.loop-i.i c.perform-stepped.result.answer refl c.loop-i.invariant.2,
       law_more _ _ l c.args.calls.now c.loop-i.i (ledger_of c.perform-stepped.result.sheet) e c.perform-stepped.ensures.after c.loop-i.invariant.3,
     )
 
