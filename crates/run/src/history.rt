@@ -40,11 +40,13 @@ where
 {
     // the question's contract: the kind has no third value
     let _ = B::Truth::no().is_yes();
-    // by index: nothing is known of what a zip with `iter_mut` writes
-    for i in 0..calls.len().min(answers.len()) {
-        let stepped = perform(sheet, calls[i], judged, written, machine, cells, bits, rows);
+    for (i, answer) in answers.iter_mut().enumerate() {
+        let Some(call) = calls.get(i) else {
+            break;
+        };
+        let stepped = perform(sheet, *call, judged, written, machine, cells, bits, rows);
         sheet = stepped.sheet;
-        answers[i] = stepped.answer;
+        *answer = stepped.answer;
     }
     sheet
 }
