@@ -1,5 +1,5 @@
 -- A machine as its tables: gates, variables, fairness pairs and the root. And the test that each names what is there.
-use Rattle.std.specs.Prelude.{◌≡◌, ℕ, ◌<◌, ◌≤◌, Bool, true, false, ◌&&◌, List, [], ◌∷◌, length, nat_lt, slice_index_or}
+use Rattle.std.specs.Prelude.{◌≡◌, ℕ, ◌<◌, ◌≤◌, Bool, true, false, ◌&&◌, List, [], ◌∷◌, length, take, nat_lt, slice_index_or}
 use Rattle.machine.specs.declared.gate.Gate.{Gate}
 use Rattle.machine.specs.declared.gate.Gate.TheVariants as gate
 use Rattle.machine.specs.declared.gate.Pair.{Pair}
@@ -65,6 +65,14 @@ pub record Bounded (m : Tables) : Type 0 where
   pub gates : length m.gates ≤ 192
   pub variables : length m.variables ≤ 64
   pub pairs : length m.pairs ≤ 64
+
+-- what is known of every machine place
+abbrev pub IsSound : Tables → Type 0
+IsSound m = Wired m × Bounded m
+
+-- the tables that stand in arrays, of which so many rows are there
+abbrev pub counted : List Gate → ℕ → List Variable → ℕ → List Pair → ℕ → ℕ → Tables
+counted gates g variables v pairs p root = record { gates = take g gates; variables = take v variables; pairs = take p pairs; root = root }
 
 -- a new machine: gate 0, constant 0, is its root
 abbrev pub fresh : Tables
