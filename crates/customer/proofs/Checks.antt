@@ -1,5 +1,5 @@
 -- The run check takes every run that was written out.
-use Rattle.std.proofs.Common.{◌≡◌, ℕ, zero, suc, ◌-◌, ◌%◌, ◌<◌, ◌≤◌, Bool, false, List, [], ◌∷◌, length, get_or, take, Ok, Err, sym, refl, ap, ◌∙◌, subst, arith, length-take}
+use Rattle.std.proofs.Common.{◌≡◌, ℕ, zero, suc, ◌-◌, ◌%◌, ◌<◌, ◌≤◌, Bool, false, List, [], ◌∷◌, length, get_or, take, Ok, Err, Result, IsOk, sym, refl, ap, ◌∙◌, subst, arith, length-take}
 use native.Mathlib.Nat.{mod_self}
 use Rattle.std.proofs.lemmas.List.{get_or-take}
 use Rattle.recording.specs.Kind.{Kind}
@@ -97,10 +97,10 @@ refuses_none K means m w rows back StrayBit gates shape within a = a.2 within
 module _ (K : Kind) {V : Type 0} (means : V → K.Value) (lines : List Line) (w : Word V) (sheet : Sheet lines) (some : 0 < length lines) (most : length lines ≤ 64)
     (cells cells' : List V) (rows rows' : List ℕ) (o : Written V) (wrote : WrittenOut K means lines w cells cells' rows rows' o) (m : Tables) (is : m ≡ translate lines) where
   abbrev pub sent : List ℕ
-  sent = take (o.rows - 0) rows'
+  sent = take o.rows rows'
 
   sent_is : sent ≡ take (horizon lines w) rows'
-  sent_is = let e : o.rows - 0 ≡ horizon lines w = omega (arith, wrote.count) in ap (λ n. take n rows') e
+  sent_is = ap (λ n. take n rows') wrote.count
 
   sent_length : length sent ≡ horizon lines w
   sent_length = ap length sent_is ∙ length-take (horizon lines w) rows' ∙ omega (arith, wrote.room, wrote.as_long)
@@ -109,12 +109,14 @@ module _ (K : Kind) {V : Type 0} (means : V → K.Value) (lines : List Line) (w 
   shape = subst (λ (q : ℕ × ℕ). Shape w q.0 q.1) (λ i. (sym sent_length i, sym wrote.back i)) (shaped lines w sheet some most)
 
   -- it does not refuse them
-  pub never_refused : (e : CheckRefusal) → Answer K means m w sent o.back (Err e) → ⊥
-  never_refused e =
-      refuses_none K means m w sent o.back e
+  pub taken : (r : Result Bool CheckRefusal) → Answer K means m w sent o.back r → IsOk r
+  taken (Ok b) a = refl
+  taken (Err e) a =
+      absurd
+      (refuses_none K means m w sent o.back e
       (subst (λ t. HasGateSignals t.gates w.signals) (sym is) (gates_named lines w.signals wrote.filled.has_signals))
       shape
-      (subst (λ (q : Tables × List ℕ). Within (length q.0.variables) q.1) (λ i. (sym is i, sym sent_is i)) wrote.others)
+      (subst (λ (q : Tables × List ℕ). Within (length q.0.variables) q.1) (λ i. (sym is i, sym sent_is i)) wrote.others) a)
 
   same_run : endless (length sent) o.back (row_bits sent) ≡ written_out lines w (row_bits rows')
   same_run =

@@ -118,8 +118,6 @@ where
 {
     let written = write_out(sheet, recording, cells, rows)?;
     translate(sheet, machine);
-    match check(machine, recording, &rows[0..written.rows], written.back) {
-        Ok(accepting) => Ok(accepting),
-        Err(_) => unreachable(),
-    }
+    let accepting = check(machine, recording, &rows[..written.rows], written.back).unwrap();
+    Ok(accepting)
 }

@@ -1,5 +1,7 @@
 -- Rows are filled line by line, sample by sample.
-use Rattle.std.proofs.Common.{◌≡◌, ℕ, ◌+◌, ◌^◌, ◌<◌, Bool, true, false, cond, ◌&&◌, ◌||◌, ◌↔◌, List, length, get_or, set, sym, refl, ap, ◌∙◌, subst, ap₂, inl, inr, true≢false, add-zero, add-one, arith, get_or-set_other, get_or-set_same}
+use Rattle.std.proofs.Common.{◌≡◌, ℕ, ◌+◌, ◌-◌, ◌^◌, ◌<◌, ◌≤◌, Bool, true, false, cond, ◌&&◌, ◌||◌, ◌↔◌, List, ◌++◌, length, take, drop, get_or, set, sym, refl, ap, ◌∙◌, subst, ap₂, inl, inr, true≢false, add-zero, add-one, arith, get_or-set_other, get_or-set_same}
+use Rattle.std.proofs.lemmas.List.{length-take-le, get_or-append_right, get_or-drop}
+use Rattle.std.proofs.Math.ListN.{get_or-append}
 use mathlib.Core.Bool.{false≢true}
 use Rattle.recording.specs.Kind.{Kind}
 use Rattle.recording.specs.Tape.{bit}
@@ -98,4 +100,17 @@ module _ (K : Kind) {V : Type 0} (means : V → K.Value) (lines : List Line) (ce
                   (subst (Packed K means lines cells (length lines) t) (sym (get_or-set_same rows t row 0 inside)) here)
             ];
         further = λ s hs. get_or-set_other rows t s row 0 (λ e. omega arith) ∙ so_far.further s (omega arith);
+      }
+
+-- rows that are packed in front of others
+module _ (K : Kind) {V : Type 0} (means : V → K.Value) (lines : List Line) (cells : List V) (rows front : List ℕ) (n : ℕ) where
+  pub front_packed : n ≤ length rows → length front ≡ length (take n rows) → RowsPacked K means lines cells (take n rows) front (length (take n rows))
+      → RowsPacked K means lines cells rows (front ++ drop n rows) n
+  front_packed room long packed =
+      let count : length (take n rows) ≡ n = length-take-le n rows room in
+      record {
+        rows = λ t ht.
+            subst (Packed K means lines cells (length lines) t) (sym (get_or-append front (drop n rows) 0 t (omega arith))) (packed.rows t (omega arith));
+        further = λ t ht.
+            get_or-append_right front (drop n rows) n t 0 (omega arith) ht ∙ get_or-drop n rows (t - n) 0 ∙ ap (λ i. get_or rows i 0) (omega arith);
       }

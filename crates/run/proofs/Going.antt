@@ -1,5 +1,5 @@
 -- One call further.
-use Rattle.std.proofs.Common.{◌≡◌, ℕ, ◌+◌, ◌<◌, ◌≤◌, List, [], ◌∷◌, ◌++◌, length, get_or, take, drop, set, fold, sym, refl, ap, ◌∙◌, subst, subst₂, arith}
+use Rattle.std.proofs.Common.{◌≡◌, ℕ, ◌+◌, ◌<◌, ◌≤◌, List, [], ◌∷◌, ◌++◌, length, get_or, take, drop, set, fold, sym, refl, ap, ◌∙◌, subst, subst₂, ap₂, arith}
 use native.Mathlib.Decide.{dec_le, dec_lt}
 use Rattle.std.proofs.lemmas.List.{take_more, take_more_set, take_all, take-take, length-take-le, drop_all, drop-set-lt, drop-drop}
 use Rattle.std.proofs.lemmas.List.Sums.{fold_more}
@@ -19,9 +19,9 @@ after_more : (l : Ledger) (cs : List Call) (i : ℕ) (d : Call) → i < length c
 unfolding after
 after_more l cs i d here = fold_more step l cs i d here
 
-pub ledger_more : (l : Ledger) (cs : List Call) (i : ℕ) (d : Call) (m m' : Ledger) → i < length cs → m ≡ after l (take i cs) → m' ≡ step m (get_or cs i d)
+pub ledger_more : (l : Ledger) (cs : List Call) (i : ℕ) (c : Call) (m m' : Ledger) → i < length cs → c ≡ get_or cs i c → m ≡ after l (take i cs) → m' ≡ step m c
     → m' ≡ after l (take (i + 1) cs)
-ledger_more l cs i d m m' here e f = f ∙ ap (λ (n : Ledger). step n (get_or cs i d)) e ∙ sym (after_more l cs i d here)
+ledger_more l cs i c m m' here is e f = f ∙ ap₂ step e is ∙ sym (after_more l cs i c here)
 
 -- the law after the first i calls, and after one more
 abbrev pub LawTo : Kind → Kind → Ledger → List Call → ℕ → Type 0
@@ -61,9 +61,8 @@ drop_room xs ys n i same a h e =
       | no l ↦ let q : n ≡ i = omega arith in rw q e
     ]
 
-pub drop_more : {A : Type 0} (xs ys zs : List A) (i : ℕ) (a : A) → zs ≡ set ys i a → drop i ys ≡ drop i xs → drop (i + 1) zs ≡ drop (i + 1) xs
-drop_more xs ys zs i a is e =
-    ap (drop (i + 1)) is ∙ drop-set-lt (i + 1) ys i a (omega arith) ∙ sym (drop-drop 1 i ys) ∙ ap (drop 1) e ∙ drop-drop 1 i xs
+pub drop_more : {A : Type 0} (xs ys : List A) (i : ℕ) (a : A) → drop i ys ≡ drop i xs → drop (i + 1) (set ys i a) ≡ drop (i + 1) xs
+drop_more xs ys i a e = drop-set-lt (i + 1) ys i a (omega arith) ∙ sym (drop-drop 1 i ys) ∙ ap (drop 1) e ∙ drop-drop 1 i xs
 
 module _ {V W : Type 0} (h : Heard V) (b : Heard W) where
   story_snoc : (l : Ledger) (s t u : Lent V W) (cs : List Call) (zs : List (Answer V W)) (c : Call) (a : Answer V W)
@@ -73,14 +72,13 @@ module _ {V W : Type 0} (h : Heard V) (b : Heard W) where
   story_snoc l s t u (d ∷ cs) [] c a st told = absurd st
   story_snoc l s t u (d ∷ cs) (z ∷ zs) c a st told = (st.0, st.1, story_snoc (step l d) st.0 t u cs zs c a st.2 told)
 
-  pub story_more : (l : Ledger) (s t u : Lent V W) (cs : List Call) (zs : List (Answer V W)) (i : ℕ) (d : Call) (a : Answer V W) (m : Ledger)
-      (zs' : List (Answer V W)) → zs' ≡ set zs i a
-      → i < length cs → i < length zs → m ≡ after l (take i cs) → Story h b l s (take i cs) (take i zs) t
-      → Tells h b m.form m (get_or cs i d) a t u → Story h b l s (take (i + 1) cs) (take (i + 1) zs') u
+  pub story_more : (l : Ledger) (s t u : Lent V W) (cs : List Call) (zs : List (Answer V W)) (i : ℕ) (c : Call) (a : Answer V W) (m : Ledger)
+      → i < length cs → c ≡ get_or cs i c → i < length zs → m ≡ after l (take i cs) → Story h b l s (take i cs) (take i zs) t
+      → Tells h b m.form m c a t u → Story h b l s (take (i + 1) cs) (take (i + 1) (set zs i a)) u
   unfolding after
-  story_more l s t u cs zs i d a m zs' is here room e st told =
-      subst₂ (λ x y. Story h b l s x y u) (sym (take_more cs i d here)) (sym (ap (take (i + 1)) is ∙ take_more_set zs i a room))
-      (story_snoc l s t u (take i cs) (take i zs) (get_or cs i d) a st (subst (λ (n : Ledger). Tells h b n.form n (get_or cs i d) a t u) e told))
+  story_more l s t u cs zs i c a m here is room e st told =
+      subst₂ (λ x y. Story h b l s x y u) (sym (take_more cs i c here ∙ ap (λ (d : Call). take i cs ++ (d ∷ [])) (sym is))) (sym (take_more_set zs i a room))
+      (story_snoc l s t u (take i cs) (take i zs) c a st (subst (λ (n : Ledger). Tells h b n.form n c a t u) e told))
 
   pub story_as : (l : Ledger) (s t : Lent V W) (cs cs' : List Call) (zs zs' : List (Answer V W)) → cs' ≡ cs → zs' ≡ zs → Story h b l s cs zs t
       → Story h b l s cs' zs' t

@@ -5,8 +5,9 @@ use Rattle.recording.specs.Word.{Word}
 use Rattle.sheet.specs.declared.line.Line.{Line}
 use Rattle.sheet.specs.Ledger as ledger
 use Rattle.sheet.specs.Ledger.{Ledger, Form, Drafted, Shut, fed}
-use Rattle.meaning.specs.declared.refusal.Refusal.{Refusal}
-use Rattle.meaning.specs.Refusals as judging
+use Rattle.sheet.specs.Refusals.{number_of}
+use Rattle.sheet.specs.declared.refusal.Refusal as sheet
+use Rattle.meaning.specs.declared.refusal.Refusal as judging
 use Rattle.meaning.specs.Sheet.{rule_of}
 use Rattle.meaning.specs.Verdict as meaning
 use Rattle.machine.specs.Tables.{Tables}
@@ -16,10 +17,10 @@ use Rattle.run.specs.declared.answer.Answer.TheVariants as answer
 use Rattle.run.specs.declared.answer.Form.TheVariants as form
 use Rattle.run.specs.declared.call.Call.{Call}
 use Rattle.run.specs.declared.call.Call.TheVariants.{Write, Strike, Seal, Reopen, Translate, Judge, WriteOut}
+use Rattle.run.specs.declared.refusal.Refusal.TheVariants as refusal
 use Rattle.run.specs.declared.refusal.WriteRefusal.{WriteRefusal}
 use Rattle.run.specs.declared.writing.Written.{Written}
 use Rattle.run.specs.Histories.{step}
-use Rattle.run.specs.Refusals as writing
 use Rattle.run.specs.Writing.{WritesOut}
 
 -- recordings with values in V: their truth kind, what a value means, and their words
@@ -48,30 +49,38 @@ On (x ∷ xs) zero P Q = P x
 On (x ∷ xs) (suc i) P Q = On xs i P Q
 
 module _ {V W : Type 0} where
-  -- the ledger's answer
-  abbrev pub told : ledger.Answer → Answer V W
-  told (ledger.Written n) = answer.Line n
-  told ledger.Done = answer.Done
-  told (ledger.Refused n) = answer.Refused n
+  -- the ledger's answer; what it refuses by number the sheet refuses, by the refusal that has this number
+  abbrev pub Told : ledger.Answer → Answer V W → Type 0
+  Told (ledger.Written n) a = a ≡ answer.Line n
+  Told ledger.Done a = a ≡ answer.Done
+  Told (ledger.Refused n) a = (e : sheet.Refusal) × (a ≡ answer.Refused (refusal.Sheet e)) × (number_of e ≡ n)
 
-  -- what judging and writing out answer
-  abbrev pub told_verdict : Result V Refusal → Answer V W
+  -- what writing a line, striking, judging and writing out answer
+  abbrev pub told_line : Result ℕ sheet.Refusal → Answer V W
+  told_line (Ok n) = answer.Line n
+  told_line (Err e) = answer.Refused (refusal.Sheet e)
+
+  abbrev pub told_done : Result Unit sheet.Refusal → Answer V W
+  told_done (Ok u) = answer.Done
+  told_done (Err e) = answer.Refused (refusal.Sheet e)
+
+  abbrev pub told_verdict : Result V judging.Refusal → Answer V W
   told_verdict (Ok v) = answer.Verdict v
-  told_verdict (Err e) = answer.Refused (judging.number_of e)
+  told_verdict (Err e) = answer.Refused (refusal.Judge e)
 
   abbrev pub told_run : Result (Written W) WriteRefusal → Answer V W
   told_run (Ok r) = answer.Run r
-  told_run (Err e) = answer.Refused (writing.number_of e)
+  told_run (Err e) = answer.Refused (refusal.WriteOut e)
 
   -- what a draft answers
-  abbrev pub draft_says : Ledger → Call → Answer V W
-  draft_says l (Write c a b) = told (fed l (ledger.Write c a b)).0
-  draft_says l Strike = told (fed l ledger.Strike).0
-  draft_says l Seal = told (fed l ledger.Seal).0
-  draft_says l Reopen = answer.NotWhile form.Draft
-  draft_says l Translate = answer.NotWhile form.Draft
-  draft_says l (Judge i) = answer.NotWhile form.Draft
-  draft_says l (WriteOut i) = answer.NotWhile form.Draft
+  abbrev pub DraftSays : Ledger → Call → Answer V W → Type 0
+  DraftSays l (Write c x y) a = Told (fed l (ledger.Write c x y)).0 a
+  DraftSays l Strike a = Told (fed l ledger.Strike).0 a
+  DraftSays l Seal a = Told (fed l ledger.Seal).0 a
+  DraftSays l Reopen a = a ≡ answer.NotWhile form.Draft
+  DraftSays l Translate a = a ≡ answer.NotWhile form.Draft
+  DraftSays l (Judge i) a = a ≡ answer.NotWhile form.Draft
+  DraftSays l (WriteOut i) a = a ≡ answer.NotWhile form.Draft
 
   -- the call answers x, and leaves all that is lent as it was
   abbrev pub Only : Answer V W → Answer V W → Lent V W → Lent V W → Type 0
@@ -80,7 +89,7 @@ module _ {V W : Type 0} where
   -- judging the lines on a word answers and leaves in the cells what it promises, and touches nothing else
   abbrev pub Judges : Heard V → List Line → Answer V W → Lent V W → Lent V W → Word V → Type 0
   Judges h lines a s t w =
-      (o : Result V Refusal) × (a ≡ told_verdict o) × meaning.Verdict h.kind h.means lines w (rule_of lines) 0 s.cells t.cells o
+      (o : Result V judging.Refusal) × (a ≡ told_verdict o) × meaning.Verdict h.kind h.means lines w (rule_of lines) 0 s.cells t.cells o
       × (t ≡ lent s.machine t.cells s.bits s.rows)
 
   -- so does writing out, with its own cells and the rows
@@ -100,11 +109,11 @@ module _ {V W : Type 0} where
 module _ {V W : Type 0} (h : Heard V) (b : Heard W) where
   -- what a call answers on a sheet with this ledger, and what it leaves of all that is lent
   abbrev pub Tells : Form → Ledger → Call → Answer V W → Lent V W → Lent V W → Type 0
-  Tells Drafted l c a s t = Only (draft_says l c) a s t
+  Tells Drafted l c a s t = DraftSays l c a × (t ≡ s)
   Tells Shut l (Write c x y) a s t = Only (answer.NotWhile form.Sealed) a s t
   Tells Shut l Strike a s t = Only (answer.NotWhile form.Sealed) a s t
   Tells Shut l Seal a s t = Only (answer.NotWhile form.Sealed) a s t
-  Tells Shut l Reopen a s t = Only (told (fed l ledger.Reopen).0) a s t
+  Tells Shut l Reopen a s t = Told (fed l ledger.Reopen).0 a × (t ≡ s)
   Tells Shut l Translate a s t = (a ≡ answer.Done) × (t ≡ lent (translate l.lines) s.cells s.bits s.rows)
   Tells Shut l (Judge i) a s t = JudgesNumber h l.lines i a s t
   Tells Shut l (WriteOut i) a s t = WritesNumber b l.lines i a s t

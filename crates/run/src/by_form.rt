@@ -4,8 +4,9 @@ ghost use Rattle.sheet.specs.Ledger.{Shut};
 ghost use Rattle.sheet.specs.Sheets.{drafted, shut, sealed_lines};
 ghost use Rattle.machine.specs.Machines.{tables};
 ghost use Rattle.machine.specs.Tables.{Tables};
+ghost use Rattle.run.specs.declared.call.Call.TheVariants.{Seal};
 ghost use Rattle.run.specs.Histories.{ledger_of, step as next_ledger};
-ghost use Rattle.run.specs.Story.{draft_says, heard, lent, JudgesNumber, WritesNumber, Tells};
+ghost use Rattle.run.specs.Story.{DraftSays, heard, lent, JudgesNumber, WritesNumber, Tells};
 
 use crate::answer::{Answer, Form};
 use crate::call::Call;
@@ -20,51 +21,38 @@ use recording::truth::{Truth, TwoValued};
 use sheet::draft::Draft;
 use sheet::sealed::Sealed;
 
+// Seals a draft that has a line.
+fn seal<V, W>(draft: Draft) -> Stepped<V, W>
+    ensures ledger { ledger_of result.sheet ≡ next_ledger (drafted draft) Seal }
+    ensures says { DraftSays (drafted draft) Seal result.answer }
+{
+    match draft.seal() {
+        Ok(sheet) => Stepped {
+            sheet: Sheet::Shut(sheet),
+            answer: Answer::Done,
+        },
+        Err(back) => Stepped {
+            sheet: Sheet::Open(back.draft),
+            answer: Answer::Refused(back.refusal.into()),
+        },
+    }
+}
+
 pub(crate) fn on_draft<V, W>(mut draft: Draft, call: Call) -> Stepped<V, W>
     ensures ledger { ledger_of result.sheet ≡ next_ledger (drafted draft) call }
-    ensures says { result.answer ≡ draft_says (drafted draft) call }
+    ensures says { DraftSays (drafted draft) call result.answer }
 {
-    match call {
-        Call::Write(code, left, right) => {
-            let answer = match draft.write(code, left, right) {
-                Ok(number) => Answer::Line(number),
-                Err(refusal) => Answer::Refused(refusal.number()),
-            };
-            Stepped {
-                sheet: Sheet::Open(draft),
-                answer,
-            }
+    let answer = match call {
+        Call::Write(code, left, right) => draft.write(code, left, right).into(),
+        Call::Strike => draft.strike().into(),
+        Call::Seal => return seal(draft),
+        Call::Reopen | Call::Translate | Call::Judge(_) | Call::WriteOut(_) => {
+            Answer::NotWhile(Form::Draft)
         }
-        Call::Strike => {
-            let answer = match draft.strike() {
-                Ok(()) => Answer::Done,
-                Err(refusal) => Answer::Refused(refusal.number()),
-            };
-            Stepped {
-                sheet: Sheet::Open(draft),
-                answer,
-            }
-        }
-        Call::Seal => match draft.seal() {
-            Ok(sealed) => {
-                let sheet = Sheet::Shut(sealed);
-                Stepped {
-                    sheet,
-                    answer: Answer::Done,
-                }
-            }
-            Err(back) => {
-                let answer = Answer::Refused(back.refusal.number());
-                Stepped {
-                    sheet: Sheet::Open(back.draft),
-                    answer,
-                }
-            }
-        },
-        Call::Reopen | Call::Translate | Call::Judge(_) | Call::WriteOut(_) => Stepped {
-            sheet: Sheet::Open(draft),
-            answer: Answer::NotWhile(Form::Draft),
-        },
+    };
+    Stepped {
+        sheet: Sheet::Open(draft),
+        answer,
     }
 }
 
@@ -77,13 +65,10 @@ fn judge_number<R: Recording, W>(
 ) -> Answer<R::Truth, W>
     ensures { (machine : Tables) (bits : List W) (rows : List ℕ) → JudgesNumber (heard R.Truth.Truth.kind R.Truth.Truth.means R.Recording.word judged.now) (sealed_lines sheet.now) number result (lent machine cells.old bits rows) (lent machine cells.new bits rows) }
 {
-    if number >= judged.len() {
+    let Some(recording) = judged.get(number) else {
         return Answer::NoRecording;
-    }
-    match judge(sheet, &judged[number], cells) {
-        Ok(verdict) => Answer::Verdict(verdict),
-        Err(refusal) => Answer::Refused(refusal.number()),
-    }
+    };
+    judge(sheet, recording, cells).into()
 }
 
 // Writes out its run on the two-valued recording of this number.
@@ -98,13 +83,10 @@ where
     B::Truth: TwoValued,
     ensures { (machine : Tables) (cells : List V) → WritesNumber (heard B.Truth.Truth.kind B.Truth.Truth.means B.Recording.word written.now) (sealed_lines sealed.now) number result (lent machine cells bits.old rows.old) (lent machine cells bits.new rows.new) }
 {
-    if number >= written.len() {
+    let Some(recording) = written.get(number) else {
         return Answer::NoRecording;
-    }
-    match write_out(sealed, &written[number], bits, rows) {
-        Ok(run) => Answer::Run(run),
-        Err(refusal) => Answer::Refused(refusal.number()),
-    }
+    };
+    write_out(sealed, recording, bits, rows).into()
 }
 
 pub(crate) fn on_sealed<R: Recording, B: Recording>(
@@ -122,35 +104,23 @@ where
     ensures ledger { ledger_of result.sheet ≡ next_ledger (shut sealed) call }
     ensures tells { Tells (heard R.Truth.Truth.kind R.Truth.Truth.means R.Recording.word judged.now) (heard B.Truth.Truth.kind B.Truth.Truth.means B.Recording.word written.now) Shut (shut sealed) call result.answer (lent (tables machine.old) cells.old bits.old rows.old) (lent (tables machine.new) cells.new bits.new rows.new) }
 {
-    match call {
-        Call::Reopen => Stepped {
-            sheet: Sheet::Open(sealed.reopen()),
-            answer: Answer::Done,
-        },
+    let answer = match call {
+        Call::Reopen => {
+            return Stepped {
+                sheet: Sheet::Open(sealed.reopen()),
+                answer: Answer::Done,
+            };
+        }
         Call::Translate => {
             translate(&sealed, machine);
-            Stepped {
-                sheet: Sheet::Shut(sealed),
-                answer: Answer::Done,
-            }
+            Answer::Done
         }
-        Call::Judge(number) => {
-            let answer = judge_number(&sealed, number, judged, cells);
-            Stepped {
-                sheet: Sheet::Shut(sealed),
-                answer,
-            }
-        }
-        Call::WriteOut(number) => {
-            let answer = write_number(&sealed, number, written, bits, rows);
-            Stepped {
-                sheet: Sheet::Shut(sealed),
-                answer,
-            }
-        }
-        Call::Write(_, _, _) | Call::Strike | Call::Seal => Stepped {
-            sheet: Sheet::Shut(sealed),
-            answer: Answer::NotWhile(Form::Sealed),
-        },
+        Call::Judge(number) => judge_number(&sealed, number, judged, cells),
+        Call::WriteOut(number) => write_number(&sealed, number, written, bits, rows),
+        Call::Write(_, _, _) | Call::Strike | Call::Seal => Answer::NotWhile(Form::Sealed),
+    };
+    Stepped {
+        sheet: Sheet::Shut(sealed),
+        answer,
     }
 }

@@ -1,5 +1,5 @@
 // Calls on one sheet, one after another.
-ghost use Rattle.std.specs.Prelude.{◌≡◌, ◌<◌, length, take, drop, slice_set};
+ghost use Rattle.std.specs.Prelude.{◌≡◌, length, take, drop};
 ghost use Rattle.machine.specs.Machines.{tables};
 ghost use Rattle.run.specs.Histories.{ledger_of, after};
 ghost use Rattle.run.specs.Law.{Throughout};
@@ -12,14 +12,6 @@ use crate::step::perform;
 use machine::place::Machine;
 use recording::recording::Recording;
 use recording::truth::{Truth, TwoValued};
-
-// Sets one item of a slice.
-fn note<T: Drop>(items: &mut [T], i: usize, item: T)
-    requires { i < length items.old }
-    ensures { items.new ≡ slice_set items.old i item }
-{
-    items[i] = item;
-}
 
 /// Makes the calls one after another on a sheet, notes what each answers, and hands the sheet back: as many calls as
 /// there are both calls and places for answers; further answers stay. A history with other recordings goes on from the
@@ -48,10 +40,13 @@ where
 {
     // the question's contract: the kind has no third value
     let _ = B::Truth::no().is_yes();
-    for i in 0..calls.len().min(answers.len()) {
-        let stepped = perform(sheet, calls[i], judged, written, machine, cells, bits, rows);
+    for (i, answer) in answers.iter_mut().enumerate() {
+        let Some(call) = calls.get(i) else {
+            break;
+        };
+        let stepped = perform(sheet, *call, judged, written, machine, cells, bits, rows);
         sheet = stepped.sheet;
-        note(answers, i, stepped.answer);
+        *answer = stepped.answer;
     }
     sheet
 }

@@ -15,16 +15,10 @@ use sheet::line::Line;
 fn has_variable(line: Line) -> bool
     ensures { (if result then 1 else 0) ≡ memory line }
 {
-    match line {
-        Line::Const(_) | Line::Signal(_) | Line::Not(_) | Line::And(_, _) | Line::Or(_, _) => false,
-        Line::Next(_)
-        | Line::Until(_, _)
-        | Line::WeakUntil(_, _)
-        | Line::Previous(_)
-        | Line::WeakPrevious(_)
-        | Line::Since(_, _)
-        | Line::WeakSince(_, _) => true,
-    }
+    !matches!(
+        line,
+        Line::Const(_) | Line::Signal(_) | Line::Not(_) | Line::And(_, _) | Line::Or(_, _)
+    )
 }
 
 // The value of a line one sample before, and `start` at sample 0.
@@ -47,16 +41,7 @@ fn shown_at<T: Truth>(cells: &[T], width: usize, number: usize, line: Line, samp
     match line {
         Line::Since(_, _) => earlier(cells, width, number, sample, T::no()),
         Line::WeakSince(_, _) => earlier(cells, width, number, sample, T::yes()),
-        Line::Const(_)
-        | Line::Signal(_)
-        | Line::Not(_)
-        | Line::And(_, _)
-        | Line::Or(_, _)
-        | Line::Next(_)
-        | Line::Until(_, _)
-        | Line::WeakUntil(_, _)
-        | Line::Previous(_)
-        | Line::WeakPrevious(_) => cells[sample * width + number],
+        _ => cells[sample * width + number],
     }
 }
 
@@ -69,10 +54,10 @@ fn row_at<T: TwoValued>(lines: &[Line], signs: &[Signs; 64], cells: &[T], sample
 {
     let mut row = 0;
     let mut name = 0;
-    for k in 0..lines.len() {
+    for (k, line) in lines.iter().enumerate() {
         let own = signs[k];
-        if (own.plus | own.minus) & has_variable(lines[k]) {
-            let value = shown_at(cells, lines.len(), k, lines[k], sample);
+        if (own.plus | own.minus) & has_variable(*line) {
+            let value = shown_at(cells, lines.len(), k, *line, sample);
             row = with_bit(row, name, value.is_yes());
             name += 1;
         }
@@ -80,21 +65,19 @@ fn row_at<T: TwoValued>(lines: &[Line], signs: &[Signs; 64], cells: &[T], sample
     row
 }
 
-// Fills the rows of the first `samples` samples.
+// Fills the rows, one for each sample from the first on.
 pub(crate) fn fill_rows<T: TwoValued>(
     lines: &[Line],
     signs: &[Signs; 64],
     cells: &[T],
     rows: &mut [u64],
-    samples: usize,
 )
     requires few { length lines.now ≤ 64 }
     requires signed { SignsOf lines.now signs.now }
-    requires cells { length lines.now * samples ≤ length cells.now }
-    requires rows { samples ≤ length rows.old }
-    ensures { RowsPacked T.Truth.kind T.Truth.means lines.now cells.now rows.old rows.new samples }
+    requires cells { length lines.now * length rows.old ≤ length cells.now }
+    ensures { RowsPacked T.Truth.kind T.Truth.means lines.now cells.now rows.old rows.new (length rows.old) }
 {
-    for t in 0..samples {
-        rows[t] = row_at(lines, signs, cells, t);
+    for (t, row) in rows.iter_mut().enumerate() {
+        *row = row_at(lines, signs, cells, t);
     }
 }

@@ -42,7 +42,7 @@ where
     }
     let verdict = judge(sheet, recording, cells)?;
     let signs = signs_in(sheet);
-    fill_rows(sheet.lines(), &signs, cells, rows, extent.samples);
+    fill_rows(sheet.lines(), &signs, cells, &mut rows[..extent.samples]);
     Ok(Written {
         rows: extent.samples,
         back: extent.steady,

@@ -3,7 +3,7 @@ use foreign::kinds::Flag;
 use foreign::wave::Wave;
 use machine::place::Machine;
 use machine::translator::translate;
-use meaning::refusal::Refusal;
+use meaning::refusal::Refusal as JudgeRefusal;
 use recording::gapped::GappedTape;
 use recording::recording::Recording;
 use recording::tape::Tape;
@@ -13,10 +13,11 @@ use run::answer::{Answer, Form};
 use run::call::Call;
 use run::form::Sheet;
 use run::history::carry_out;
-use run::refusal::WriteRefusal;
+use run::refusal::{Refusal, WriteRefusal};
 use run::step::perform;
 use run::writing::{Written, write_out};
 use sheet::draft::Draft;
+use sheet::refusal::Refusal as SheetRefusal;
 use sheet::sealed::Sealed;
 use std::process::Abort;
 use std::test::Fail;
@@ -27,10 +28,7 @@ fn sheet_of(lines: &[[u8; 3]]) -> Result<Sealed, Fail> {
     for line in lines {
         draft.write(line[0], line[1], line[2])?;
     }
-    match draft.seal() {
-        Ok(sealed) => Ok(sealed),
-        Err(_) => Err(Fail::new("no line")),
-    }
+    draft.seal().map_err(|_| Fail::new("no line"))
 }
 
 // Whether the run written out, checked on the translation, says the verdict; and which.
@@ -55,11 +53,7 @@ where
 
 // The second operand of a line with this code, where the first is line 2.
 fn second(code: u8) -> u8 {
-    if code == 2 || code == 5 || code == 8 || code == 9 {
-        0
-    } else {
-        1
-    }
+    if matches!(code, 2 | 5 | 8 | 9) { 0 } else { 1 }
 }
 
 // A hundred sheets, each operator above each; answers how many hold.
@@ -143,8 +137,8 @@ fn rows_of_a_run(rt: HostRuntime) -> Result<(), Fail> {
     );
     // since is no, yes, yes from 1 on; weak since is yes throughout, and so is the until
     let expected = [6, 6, 7, 7, 7, 7, 7];
-    for t in 0..7 {
-        assert_eq!(rt; rows[t], expected[t]);
+    for (row, bits) in rows.iter().zip(expected) {
+        assert_eq!(rt; *row, bits);
     }
     assert_eq!(rt; rows[7], u64::MAX);
     assert_eq!(rt; rows[8], u64::MAX);
@@ -162,11 +156,11 @@ fn refuses_in_order(rt: HostRuntime) -> Result<(), Fail> {
     let mut rows = [7, 8];
     assert_eq!(rt;
         write_out(&previous, &narrow, &mut cells[0..3], &mut rows[0..1]),
-        Err(WriteRefusal::NotJudged(Refusal::NoSignal))
+        Err(WriteRefusal::NotJudged(JudgeRefusal::NoSignal))
     );
     assert_eq!(rt;
         write_out(&previous, &wide, &mut cells[0..3], &mut rows[0..1]),
-        Err(WriteRefusal::NotJudged(Refusal::TooFewCells))
+        Err(WriteRefusal::NotJudged(JudgeRefusal::TooFewCells))
     );
     assert_eq!(rt;
         write_out(&previous, &wide, &mut cells, &mut rows[0..1]),
@@ -177,8 +171,11 @@ fn refuses_in_order(rt: HostRuntime) -> Result<(), Fail> {
         "the cells stay"
     );
     assert!(rt; rows[0] == 7 && rows[1] == 8, "the rows stay");
-    assert_eq!(rt; WriteRefusal::NotJudged(Refusal::NoSignal).number(), 5);
-    assert_eq!(rt; WriteRefusal::NotJudged(Refusal::TooFewCells).number(), 6);
+    assert_eq!(rt; WriteRefusal::NotJudged(JudgeRefusal::NoSignal).number(), 5);
+    assert_eq!(rt;
+        WriteRefusal::NotJudged(JudgeRefusal::TooFewCells).number(),
+        6
+    );
     assert_eq!(rt; WriteRefusal::TooFewRows.number(), 7);
     assert_eq!(rt;
         write_out(&previous, &wide, &mut cells, &mut rows)?,
@@ -247,9 +244,9 @@ fn histories(rt: HostRuntime) -> Result<(), Fail> {
         Call::WriteOut(0),
     ];
     let expected = [
-        Answer::Refused(4),
-        Answer::Refused(1),
-        Answer::Refused(2),
+        Answer::Refused(Refusal::Sheet(SheetRefusal::Empty)),
+        Answer::Refused(Refusal::Sheet(SheetRefusal::Code)),
+        Answer::Refused(Refusal::Sheet(SheetRefusal::Operand)),
         Answer::Line(0),
         Answer::NotWhile(Form::Draft),
         Answer::Line(1),
@@ -267,7 +264,7 @@ fn histories(rt: HostRuntime) -> Result<(), Fail> {
             back: 0,
             verdict: true,
         }),
-        Answer::Refused(5),
+        Answer::Refused(Refusal::WriteOut(WriteRefusal::NotJudged(JudgeRefusal::NoSignal))),
         Answer::Done,
         Answer::NotWhile(Form::Draft),
     ];
@@ -289,8 +286,14 @@ fn histories(rt: HostRuntime) -> Result<(), Fail> {
         &mut rows,
         &mut answers,
     );
-    for i in 0..19 {
-        assert_eq!(rt; answers[i], expected[i]);
+    for (answer, told) in answers.iter().zip(expected) {
+        assert_eq!(rt; *answer, told);
+    }
+    for (i, number) in [(0, 4), (1, 1), (2, 2), (16, 5)] {
+        let Answer::Refused(refusal) = answers[i] else {
+            return Err(Fail::new("the call is refused"));
+        };
+        assert_eq!(rt; refusal.number(), number);
     }
     assert_eq!(rt; answers[19], Answer::Done);
     assert_eq!(rt; machine.gates().len(), 3);

@@ -7,6 +7,7 @@ use Rattle.sheet.specs.declared.line.Line.{Line}
 use Rattle.meaning.specs.Verdict.{horizon}
 use Rattle.run.specs.declared.answer.Answer as reply_of
 use Rattle.run.specs.declared.answer.Answer.TheVariants as reply
+use Rattle.run.specs.Refusals.{refused_number}
 use Rattle.run.specs.declared.call.Call.{Call}
 use Rattle.run.specs.declared.call.Call.TheVariants as library
 use Rattle.asked.specs.declared.call.SheetCall.{SheetCall}
@@ -52,7 +53,7 @@ done_as call.Run = answer.Done
 abbrev pub told : {V W : Type 0} → (V → Ternary) → (W → Ternary) → SheetCall → Filled → Answer → reply_of.Answer V W → Answer
 told three raise c filled lacking (reply.Line n) = answer.Line n
 told three raise c filled lacking reply.Done = done_as c
-told three raise c filled lacking (reply.Refused n) = answer.Refused n
+told three raise c filled lacking (reply.Refused e) = answer.Refused (refused_number e)
 told three raise c filled lacking (reply.Verdict v) = answer.Values (record { verdict = three v; filled = filled })
 told three raise c filled lacking (reply.Run r) = answer.Run (record { rows = r.rows; back = r.back; verdict = raise r.verdict })
 told three raise c filled lacking (reply.NotWhile x) = answer.NotWhile x

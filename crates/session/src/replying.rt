@@ -77,7 +77,7 @@ pub(crate) fn told<V: AmongThree, W: AmongThree>(
     match reply {
         Reply::Line(number) => Answer::Line(number),
         Reply::Done => done(call),
-        Reply::Refused(number) => Answer::Refused(number),
+        Reply::Refused(refusal) => Answer::Refused(refusal.number()),
         Reply::Verdict(value) => Answer::Values(Judged {
             verdict: value.as_ternary(),
             filled,

@@ -1,6 +1,6 @@
 use Rattle.std.proofs.Common.{◌≡◌, ◌+◌, ◌<◌, ◌≤◌, List, length, take, sym, refl, ap, ◌∙◌, arith}
+use Rattle.std.proofs.lemmas.List.{set-get_or}
 use Rattle.run.specs.declared.call.Call.{Call}
-use Rattle.run.specs.declared.call.Call.TheVariants.{Write}
 use Rattle.run.specs.Histories.{ledger_of, after}
 use Rattle.run.proofs.Going.{after_none, ledger_more, story_more, story_as, law_none, law_more, law_all, take_room, drop_room, drop_more}
 use Rattle.run.proofs.Keeping.{sheet_law}
@@ -8,6 +8,7 @@ use Rattle.run.proofs.history.carry_out.Goals as goal
 
 pub loop-i-init : goal.loop-i-init
 loop-i-init g c = (
+  omega arith,
   sym (after_none (ledger_of c.args.sheet)),
   refl,
   refl,
@@ -17,27 +18,50 @@ loop-i-init g c = (
 pub loop-i-preserved : goal.loop-i-preserved
 loop-i-preserved g c =
     let l = ledger_of c.args.sheet in
-    let here : c.loop-i.i < length c.args.calls.now = omega arith in
-    let room : c.loop-i.i < length c.loop-i.answers = omega arith in
-    let e : ledger_of c.perform-stepped.result.sheet ≡ after l (take (c.loop-i.i + 1) c.args.calls.now) =
-    ledger_more l c.args.calls.now c.loop-i.i (Write 0 0 0) (ledger_of c.loop-i.sheet) (ledger_of c.perform-stepped.result.sheet) here c.loop-i.invariant.0 c.perform-stepped.ensures.ledger in (
+    let calls : List Call = c.args.calls.now in
+    let i = c.loop-i.i in
+    let found = c.in-Some.ensures.lookup in
+    let here : i < length calls = found.3.0 in
+    let room : i < length c.loop-i.answers = omega arith in
+    let so_far = c.loop-i.invariant in
+    let e : ledger_of c.perform-stepped.result.sheet ≡ after l (take (i + 1) calls) =
+    ledger_more l calls i c.in-Some.call.now (ledger_of c.loop-i.sheet) (ledger_of c.perform-stepped.result.sheet) here found.1 so_far.1 c.perform-stepped.ensures.ledger in (
+      omega arith,
       e,
-      story_more _ _ l _ _ _ c.args.calls.now c.loop-i.answers c.loop-i.i (Write 0 0 0) c.perform-stepped.result.answer (ledger_of c.loop-i.sheet) c.note.new.items c.note.ensures
-          here room c.loop-i.invariant.0 c.loop-i.invariant.1 c.perform-stepped.ensures.tells,
-      drop_more c.args.answers.now c.loop-i.answers c.note.new.items c.loop-i.i c.perform-stepped.result.answer c.note.ensures c.loop-i.invariant.2,
-      law_more _ _ l c.args.calls.now c.loop-i.i (ledger_of c.perform-stepped.result.sheet) e c.perform-stepped.ensures.after c.loop-i.invariant.3,
+      story_more _ _ l _ _ _ calls c.loop-i.answers i c.in-Some.call.now c.perform-stepped.result.answer (ledger_of c.loop-i.sheet)
+          here found.1 room so_far.1 so_far.2 c.perform-stepped.ensures.tells,
+      drop_more c.args.answers.now c.loop-i.answers i c.perform-stepped.result.answer so_far.3,
+      law_more _ _ l calls i (ledger_of c.perform-stepped.result.sheet) e c.perform-stepped.ensures.after so_far.4,
     )
 
-pub returns : goal.returns
-returns g c =
+-- the answers are used up
+pub returns-after-loop-i : goal.returns-after-loop-i
+returns-after-loop-i g c =
+    let l = ledger_of c.args.sheet in
     let calls : List Call = c.args.calls.now in
-    let some : c.loop-i.i ≤ length calls = omega arith in
+    let so_far = c.loop-i.invariant in
     let made : take (length c.args.answers.now) calls ≡ take c.loop-i.i calls =
-    take_room calls (length c.args.answers.now) c.loop-i.i (omega arith) some (λ h. omega arith) in
+    take_room calls (length c.args.answers.now) c.loop-i.i (omega arith) so_far.0 (λ h. omega arith) in
     record {
-      ledger = c.loop-i.invariant.0 ∙ ap (after (ledger_of c.args.sheet)) (sym made);
-      story = story_as _ _ _ _ _ _ _ _ _ made
-          (take_room c.loop-i.answers (length calls) c.loop-i.i some (omega arith) (λ h. omega arith)) c.loop-i.invariant.1;
-      law = law_all _ _ (ledger_of c.args.sheet) calls _ c.loop-i.i some made c.loop-i.invariant.3;
-      further = drop_room c.args.answers.now c.loop-i.answers (length calls) c.loop-i.i (omega arith) some (λ h. omega arith) c.loop-i.invariant.2;
+      ledger = so_far.1 ∙ ap (after l) (sym made);
+      story = story_as _ _ _ _ _ _ _ _ _ made (take_room c.loop-i.answers (length calls) c.loop-i.i so_far.0 (omega arith) (λ h. omega arith)) so_far.2;
+      law = law_all _ _ l calls _ c.loop-i.i so_far.0 made so_far.4;
+      further = drop_room c.args.answers.now c.loop-i.answers (length calls) c.loop-i.i (omega arith) so_far.0 (λ h. omega arith) so_far.3;
+    }
+
+-- the calls are used up
+pub returns-in_default : goal.returns-in_default
+returns-in_default g c =
+    let l = ledger_of c.args.sheet in
+    let calls : List Call = c.args.calls.now in
+    let so_far = c.loop-i.invariant in
+    let all : length calls ≤ c.loop-i.i = c.in_default.ensures.lookup.3 in
+    let made : take (length c.args.answers.now) calls ≡ take c.loop-i.i calls =
+    take_room calls (length c.args.answers.now) c.loop-i.i (omega arith) so_far.0 (λ h. all) in
+    let same = set-get_or c.loop-i.answers c.loop-i.i c.index-answers-i.result in
+    record {
+      ledger = so_far.1 ∙ ap (after l) (sym made);
+      story = rw same (story_as _ _ _ _ _ _ _ _ _ made (take_room c.loop-i.answers (length calls) c.loop-i.i so_far.0 (omega arith) (λ h. omega arith)) so_far.2);
+      law = law_all _ _ l calls _ c.loop-i.i so_far.0 made so_far.4;
+      further = rw same (drop_room c.args.answers.now c.loop-i.answers (length calls) c.loop-i.i (omega arith) so_far.0 (λ h. omega arith) so_far.3);
     }

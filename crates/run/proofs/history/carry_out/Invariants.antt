@@ -1,4 +1,4 @@
-use Rattle.std.proofs.Common.{◌≡◌, take, drop}
+use Rattle.std.proofs.Common.{◌≡◌, ◌≤◌, length, take, drop}
 use Rattle.machine.specs.Machines.{tables}
 use Rattle.run.specs.Histories.{ledger_of, after}
 use Rattle.run.specs.Story.{heard, lent, Story}
@@ -9,7 +9,8 @@ abbrev pub invariant-loop-i : goal.invariant-loop-i
 invariant-loop-i g l =
     let k = g.R.Truth.Truth in
     let b = g.B.Truth.Truth in
-    (ledger_of l.sheet ≡ after (ledger_of l.initial.sheet) (take l.i l.calls))
+    (l.i ≤ length l.calls)
+    × (ledger_of l.sheet ≡ after (ledger_of l.initial.sheet) (take l.i l.calls))
     × Story (heard k.kind k.means g.R.Recording.word l.judged) (heard b.kind b.means g.B.Recording.word l.written)
     (ledger_of l.initial.sheet)
     (lent (tables l.initial.machine) l.initial.cells l.initial.bits l.initial.rows)
