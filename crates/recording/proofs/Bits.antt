@@ -1,8 +1,9 @@
 -- Masks of bits: stray bits, reading a copy, and words of the same masks.
-use Rattle.std.proofs.Common.{◌≡◌, ℕ, zero, suc, ◌+◌, ◌*◌, ◌/◌, ◌%◌, ◌^◌, ◌<◌, ◌≤◌, false, eqb, List, length, get_or, take, sym, ap, ◌∙◌, subst, div-lt_iff_lt-mul, pow-suc, div-one, add-one, arith, pow_pos, pow_mono, shr-shr, shr_lt}
+use Rattle.std.proofs.Common.{All, ◌↔◌, ◌≡◌, ℕ, zero, suc, ◌+◌, ◌*◌, ◌/◌, ◌%◌, ◌^◌, ◌<◌, ◌≤◌, false, eqb, List, length, get_or, take, sym, ap, ◌∙◌, subst, div-lt_iff_lt-mul, pow-suc, div-one, add-one, arith, pow_pos, pow_mono, shr-shr, shr_lt}
 use native.Mathlib.Nat.{div-eq_of_lt}
 use Rattle.std.proofs.lemmas.List.{get_or-take}
 use Rattle.std.proofs.lemmas.Bool.{eqb-false}
+use Rattle.std.proofs.lemmas.List.Elements.{All-get_or, All-from_get_or}
 use Rattle.recording.specs.Tape.{bit, Within}
 
 -- a mask below 2 ^ n has no bit from n on
@@ -36,6 +37,13 @@ within_small signals masks h t i inside above = no_bit signals (get_or masks t 0
 
 pub small_within : (signals : ℕ) (masks : List ℕ) → Within signals masks → (t : ℕ) → t < length masks → get_or masks t 0 < 2 ^ signals
 small_within signals masks h t inside = small signals (get_or masks t 0) (λ i above. h t i inside above)
+
+-- no stray bit, by the masks' sizes
+pub within_all : (signals : ℕ) (masks : List ℕ) → All (λ mask. mask < 2 ^ signals) masks ↔ Within signals masks
+within_all signals masks = (
+  (λ h. within_small signals masks (λ t inside. All-get_or (λ mask. mask < 2 ^ signals) masks t 0 inside h)),
+  λ h. All-from_get_or (λ mask. mask < 2 ^ signals) masks 0 (small_within signals masks h),
+)
 
 -- a mask, read among more
 pub read_front : (masks : List ℕ) (n k p : ℕ) → k ≡ p → k < n → get_or masks k 0 ≡ get_or (take n masks) p 0

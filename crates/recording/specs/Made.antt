@@ -8,17 +8,23 @@ use Rattle.recording.specs.Word.{Word}
 use Rattle.recording.specs.declared.gapped.GappedTape.{GappedTape}
 use Rattle.recording.specs.declared.refusal.TapeRefusal.{TapeRefusal}
 use Rattle.recording.specs.declared.refusal.WheelRefusal.{WheelRefusal}
+use Rattle.recording.specs.declared.sizes.Sizes.{Sizes}
 use Rattle.recording.specs.declared.tape.Tape.{Tape}
 use Rattle.recording.specs.declared.truth.Ternary.{Ternary}
 use Rattle.recording.specs.declared.wheel.Wheel.{Wheel}
 
+-- the sizes of a tape
+abbrev pub AreSizes : (signals stem cycle : ℕ) → Sizes → Type 0
+AreSizes signals stem cycle s = (s.signals ≡ signals) × (s.stem ≡ stem) × (s.cycle ≡ cycle)
+
 -- the words that the three recordings mean; an array's masks from stem + cycle on have no meaning
 abbrev pub tape_word : Tape → Word Bool
-tape_word t = tape t.signals t.stem t.cycle (take (t.stem + t.cycle) t.masks) t.sizes
+tape_word t =
+    tape t.sizes.signals t.sizes.stem t.sizes.cycle (take (t.sizes.stem + t.sizes.cycle) t.masks) t.sizes.in_range
 
 abbrev pub gapped_word : GappedTape → Word Ternary
 gapped_word t =
-    gapped t.signals t.stem t.cycle (take (t.stem + t.cycle) t.masks) (take (t.stem + t.cycle) t.lost) t.sizes
+    gapped t.sizes.signals t.sizes.stem t.sizes.cycle (take (t.sizes.stem + t.sizes.cycle) t.masks) (take (t.sizes.stem + t.sizes.cycle) t.lost) t.sizes.in_range
 
 abbrev pub wheel_word : Wheel → Word Bool
 wheel_word w = wheel w.teeth w.gap w.start (wheel_sizes w.fits)

@@ -1,4 +1,4 @@
-ghost use Rattle.recording.specs.Word.{Sizes};
+use crate::sizes::Sizes;
 
 pub mod calls;
 
@@ -6,10 +6,7 @@ pub mod calls;
 /// those from stem + cycle on have no meaning.
 #[derive(Clone, Copy)]
 pub struct GappedTape {
-    signals: u32,
-    stem: u32,
-    cycle: u32,
+    sizes: Sizes,
     masks: [u32; 320],
     lost: [u32; 320],
-    ghost sizes: { Sizes signals stem cycle },
 }

@@ -2,9 +2,9 @@
 #![tactic(auto)]
 
 pub mod gapped;
-mod masks;
 pub mod recording;
 pub mod refusal;
+mod sizes;
 pub mod tape;
 pub mod truth;
 pub mod wheel;

@@ -1,7 +1,10 @@
 // Truth kinds, and the two that are built.
-ghost use Rattle.std.specs.Prelude.{◌≡◌};
+ghost use Rattle.std.specs.Prelude.{◌≡◌, Some};
 ghost use Rattle.recording.specs.Kind.{Kind, Tells};
 ghost use Rattle.recording.specs.Kinds.{two, three};
+ghost use Rattle.recording.specs.Printed.{truth_text};
+
+use std::fmt;
 
 /// A kind of truth values. Its laws are laws of what the values mean, so that different values may mean the same.
 pub trait Truth: Copy {
@@ -67,11 +70,23 @@ impl TwoValued for bool {
 }
 
 /// The three-valued kind: no, lost, yes rise; and takes the lower, or the higher, not keeps lost.
-#[derive(Clone, Copy, PartialEq, Eq, Debug)]
+#[derive(Clone, Copy, PartialEq, Eq, PartialOrd, Ord, Debug)]
 pub enum Ternary {
     No,
     Lost,
     Yes,
+}
+
+impl fmt::Display for Ternary {
+    ghost output = { λ p. Some (truth_text p) };
+
+    fn fmt<W: fmt::Write>(&self, f: &mut fmt::Formatter<W>) -> fmt::Result {
+        f.write_str(match self {
+            Ternary::No => "no",
+            Ternary::Lost => "lost",
+            Ternary::Yes => "yes",
+        })
+    }
 }
 
 impl Truth for Ternary {
@@ -88,27 +103,11 @@ impl Truth for Ternary {
     }
 
     fn and(self, other: Ternary) -> Ternary {
-        match self {
-            Ternary::No => Ternary::No,
-            Ternary::Lost => match other {
-                Ternary::No => Ternary::No,
-                Ternary::Lost => Ternary::Lost,
-                Ternary::Yes => Ternary::Lost,
-            },
-            Ternary::Yes => other,
-        }
+        self.min(other)
     }
 
     fn or(self, other: Ternary) -> Ternary {
-        match self {
-            Ternary::No => other,
-            Ternary::Lost => match other {
-                Ternary::No => Ternary::Lost,
-                Ternary::Lost => Ternary::Lost,
-                Ternary::Yes => Ternary::Yes,
-            },
-            Ternary::Yes => Ternary::Yes,
-        }
+        self.max(other)
     }
 
     fn not(self) -> Ternary {

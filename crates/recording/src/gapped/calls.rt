@@ -4,9 +4,9 @@ ghost use Rattle.recording.specs.Gapped.{seen};
 ghost use Rattle.recording.specs.Made.{GappedMade, gapped_word};
 
 use crate::gapped::GappedTape;
-use crate::masks::{copied, fit, has_bit, mask_number};
 use crate::recording::Recording;
 use crate::refusal::TapeRefusal;
+use crate::sizes::{Sizes, has_bit};
 use crate::truth::Ternary;
 
 impl GappedTape {
@@ -20,18 +20,11 @@ impl GappedTape {
     ) -> Result<GappedTape, TapeRefusal>
         ensures { GappedMade signals stem cycle masks.now lost.now result }
     {
-        if !fit(signals, stem, cycle, masks) {
-            return Err(TapeRefusal::BadTape);
-        }
-        if !fit(signals, stem, cycle, lost) {
-            return Err(TapeRefusal::BadTape);
-        }
+        let sizes = Sizes::new(signals, stem, cycle)?;
         Ok(GappedTape {
-            signals,
-            stem,
-            cycle,
-            masks: copied(masks),
-            lost: copied(lost),
+            sizes,
+            masks: sizes.own(masks)?,
+            lost: sizes.own(lost)?,
         })
     }
 }
@@ -55,25 +48,25 @@ impl Recording for GappedTape {
     ghost word = { gapped_word };
 
     fn signals(&self) -> u32 {
-        self.signals
+        self.sizes.signals
     }
 
     fn stem(&self) -> u32 {
-        self.stem
+        self.sizes.stem
     }
 
     fn cycle(&self) -> u32 {
-        self.cycle
+        self.sizes.cycle
     }
 
     fn value(&self, signal: u32, sample: u32) -> Option<Ternary> {
-        if signal >= self.signals {
+        if signal >= self.sizes.signals {
             return None;
         }
-        let t = mask_number(self.stem, self.cycle, sample);
+        let number = self.sizes.mask_number(sample);
         Some(seen_as(
-            has_bit(self.lost[t], signal),
-            has_bit(self.masks[t], signal),
+            has_bit(self.lost[number], signal),
+            has_bit(self.masks[number], signal),
         ))
     }
 }

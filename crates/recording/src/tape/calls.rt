@@ -2,9 +2,9 @@
 ghost use Rattle.std.specs.Prelude.{◌≡◌};
 ghost use Rattle.recording.specs.Made.{TapeMade, tape_word};
 
-use crate::masks::{copied, fit, has_bit, mask_number};
 use crate::recording::Recording;
 use crate::refusal::TapeRefusal;
+use crate::sizes::{Sizes, has_bit};
 use crate::tape::Tape;
 
 impl Tape {
@@ -12,14 +12,10 @@ impl Tape {
     pub fn new(signals: u32, stem: u32, cycle: u32, masks: &[u32]) -> Result<Tape, TapeRefusal>
         ensures { TapeMade signals stem cycle masks.now result }
     {
-        if !fit(signals, stem, cycle, masks) {
-            return Err(TapeRefusal::BadTape);
-        }
+        let sizes = Sizes::new(signals, stem, cycle)?;
         Ok(Tape {
-            signals,
-            stem,
-            cycle,
-            masks: copied(masks),
+            sizes,
+            masks: sizes.own(masks)?,
         })
     }
 }
@@ -30,22 +26,22 @@ impl Recording for Tape {
     ghost word = { tape_word };
 
     fn signals(&self) -> u32 {
-        self.signals
+        self.sizes.signals
     }
 
     fn stem(&self) -> u32 {
-        self.stem
+        self.sizes.stem
     }
 
     fn cycle(&self) -> u32 {
-        self.cycle
+        self.sizes.cycle
     }
 
     fn value(&self, signal: u32, sample: u32) -> Option<bool> {
-        if signal >= self.signals {
+        if signal >= self.sizes.signals {
             return None;
         }
-        let t = mask_number(self.stem, self.cycle, sample);
-        Some(has_bit(self.masks[t], signal))
+        let number = self.sizes.mask_number(sample);
+        Some(has_bit(self.masks[number], signal))
     }
 }

@@ -12,7 +12,7 @@ impl Wheel {
     pub fn new(teeth: u32, gap: u32, start: u32) -> Result<Wheel, WheelRefusal>
         ensures { WheelMade teeth gap start result }
     {
-        if teeth < 2 || teeth > 64 || gap < 1 || gap >= teeth || start >= teeth {
+        if !(2..=64).contains(&teeth) || !(1..teeth).contains(&gap) || start >= teeth {
             return Err(WheelRefusal::BadWheel);
         }
         Ok(Wheel { teeth, gap, start })

@@ -1,13 +1,7 @@
-use Rattle.std.proofs.Common.{take, sym, ap, ◌∙◌}
-use Rattle.recording.proofs.Words.{same_gapped}
+use Rattle.std.proofs.Common.{refl}
+use Rattle.recording.proofs.Words.{made_gapped}
 use Rattle.recording.proofs.gapped.GappedTape.new.Goals as goal
 
 pub returns : goal.returns
 returns c =
-    let fits = c.fit.ensures.is c.if-not-fit.false in
-    let lost = c.fit-2.ensures.is c.if-not-fit-2.false in (
-      fits,
-      lost,
-      same_gapped (ap (λ n. take n c.copied.result) (sym fits.whole) ∙ c.copied.ensures)
-          (ap (λ n. take n c.copied-2.result) (sym lost.whole) ∙ c.copied-2.ensures) _ _,
-    )
+    made_gapped c.in_ok-sizes.sizes _ _ _ _ _ _ _ c.in_ok-sizes.ensures.are (c.in_ok-own.ensures.fits.0 refl) c.in_ok-own.ensures.copied (c.in_ok-own-2.ensures.fits.0 refl) c.in_ok-own-2.ensures.copied
