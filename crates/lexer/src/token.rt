@@ -3,11 +3,11 @@ ghost use Rattle.std.specs.Prelude.{◌≤◌, length};
 ghost use Rattle.lexer.specs.Names.{Letters};
 ghost use Rattle.lexer.specs.Tokens.{IsToken};
 
-/// A sign, a digit, or a name: that part of the text itself, with its place.
+/// A sign, a digit's truth value, or a name: that part of the text itself, with its place.
 #[derive(Clone, Copy)]
 pub enum Token<'a> {
     Sign(char),
-    Digit(char),
+    Digit(bool),
     Name { bytes: &'a [u8], at: usize },
 }
 
@@ -45,7 +45,8 @@ pub fn next_token<'a>(text: &'a [u8], at: usize) -> Option<(Token<'a>, usize)>
         | 'W'
         | 'S'
         | 'B') => { Some((Token::Sign(sign), at + 1)) }
-        digit @ ('0' | '1') => Some((Token::Digit(digit), at + 1)),
+        '0' => Some((Token::Digit(false), at + 1)),
+        '1' => Some((Token::Digit(true), at + 1)),
         'a'..='z' => {
             let end = letters_end(text, at);
             Some((
