@@ -1,5 +1,5 @@
 -- What the tokens of a rule text are.
-use Rattle.std.specs.Prelude.{◌≡◌, ℕ, ◌+◌, ◌<◌, ◌⊎◌, List, [], ◌∷◌, length, Some, None, codes, Option, slice_index, slice_range}
+use Rattle.std.specs.Prelude.{◌≡◌, ℕ, ◌+◌, ◌<◌, Bool, true, false, ◌⊎◌, List, [], ◌∷◌, length, Some, None, codes, Option, slice_index, slice_range}
 use Rattle.lexer.specs.declared.token.Token.{Token}
 use Rattle.lexer.specs.declared.token.Token.TheVariants.{Sign, Digit, Name}
 use Rattle.lexer.specs.Names.{Letter, Letters}
@@ -14,6 +14,11 @@ signs = codes "!XYZFGOH()&|>UWSB"
 
 abbrev pub digits : List ℕ
 digits = codes "01"
+
+-- the digit of a truth value
+abbrev pub digit_of : Bool → ℕ
+digit_of false = 48
+digit_of true = 49
 
 -- no token begins at `at`
 pub record NoToken (text : List ℕ) (at : ℕ) : Type 0 where
@@ -38,5 +43,5 @@ pub record NameToken (text : List ℕ) (at : ℕ) (name : List ℕ) (place after
 abbrev pub IsToken : List ℕ → ℕ → Option (Token × ℕ) → Type 0
 IsToken text at None = NoToken text at
 IsToken text at (Some (Sign b, after)) = ByteToken signs text at b after
-IsToken text at (Some (Digit b, after)) = ByteToken digits text at b after
+IsToken text at (Some (Digit v, after)) = ByteToken digits text at (digit_of v) after
 IsToken text at (Some (Name name place, after)) = NameToken text at name.now place after

@@ -1,5 +1,5 @@
--- What a write into a draft comes to.
-use Rattle.std.proofs.Common.{◌≡◌, ℕ, zero, suc, ◌<◌, ◌≤◌, Bool, true, false, cond, eqb, List, [], ◌∷◌, ◌++◌, map, length, get_or, Some, None, Ok, Err, Option, Result, sym, refl, ap, ◌∙◌, subst, arith}
+-- What a push onto a draft comes to.
+use Rattle.std.proofs.Common.{◌≡◌, ℕ, ◌<◌, ◌≤◌, Bool, true, false, cond, eqb, List, [], ◌∷◌, ◌++◌, length, Ok, Err, Result, sym, refl, ap, ◌∙◌, subst, arith}
 use Rattle.std.proofs.lemmas.List.{append-nil}
 use Rattle.std.proofs.lemmas.Bool.Decides.{nat_tests}
 use Rattle.sheet.proofs.Front.{length_lines}
@@ -7,17 +7,17 @@ use Rattle.sheet.specs.declared.draft.Draft.{Draft}
 use Rattle.sheet.specs.declared.line.Line.{Line}
 use Rattle.sheet.specs.declared.refusal.Refusal.{Refusal}
 use Rattle.sheet.specs.declared.refusal.Refusal.TheVariants.{Code, Operand, Full, Empty}
-use Rattle.sheet.specs.Ledger.{Ledger, Answer, Written, Refused, Write, fed, put, put_named}
+use Rattle.sheet.specs.declared.line.Line.TheVariants.{Const, Signal, Not, And, Or, Next, Until, WeakUntil, Previous, WeakPrevious, Since, WeakSince}
+use Rattle.sheet.specs.Ledger.{Ledger, Answer, Written, Refused, pushed, put}
 use Rattle.sheet.specs.Refusals.{number_of}
 use Rattle.sheet.specs.Sheets.{lines_of, drafted, written}
-use Rattle.sheet.specs.Table.{lines_with, named_line, operands_of, blank}
+use Rattle.sheet.specs.Table.{Lower, fits}
 use Rattle.text.specs.Guards.{Grown}
-use Rattle.text.specs.Steps.{coded, Allowed}
 
 pub few : (d : Draft) → length (lines_of d) ≤ 64
 few d = omega (arith, length_lines d, d.room)
 
--- a write adds lines and changes none
+-- a push adds lines and changes none
 
 grown_cond : (ls : List Line) (b : Bool) (p q : Answer × Ledger) → Grown ls p.1.lines → Grown ls q.1.lines → Grown ls (cond b p q).1.lines
 grown_cond ls true p q hp hq = hp
@@ -26,26 +26,28 @@ grown_cond ls false p q hp hq = hq
 grown_same : (ls : List Line) → Grown ls ls
 grown_same ls = ([], sym (append-nil ls))
 
-grown_named : (o : Option Line) (a b : ℕ) (l : Ledger) → Grown l.lines (put_named o a b l).1.lines
-grown_named None a b l = grown_same l.lines
-grown_named (Some x) a b l =
-    grown_cond l.lines (operands_of x (length l.lines) a b) _ _
-    (grown_cond l.lines (eqb (length l.lines) 64) _ _ (grown_same l.lines) (x ∷ [], refl))
-    (grown_same l.lines)
+pub pushed_grown : (d e : Draft) (r : Result ℕ Refusal) (x : Line) → (written r, drafted e) ≡ pushed (drafted d) x → Grown (lines_of d) (lines_of e)
+pushed_grown d e r x w =
+    let ls = lines_of d in
+    subst (Grown ls) (sym (ap (λ (p : Answer × Ledger). p.1.lines) w))
+    (grown_cond ls (fits (length ls) x) _ _ (grown_cond ls (eqb (length ls) 64) _ _ (grown_same ls) (x ∷ [], refl)) (grown_same ls))
 
-pub fed_grown : (d e : Draft) (r : Result ℕ Refusal) (c a b : ℕ) → (written r, drafted e) ≡ fed (drafted d) (Write c a b) → Grown (lines_of d) (lines_of e)
-fed_grown d e r c a b w =
-    subst (Grown (lines_of d)) (sym (ap (λ (p : Answer × Ledger). p.1.lines) w)) (grown_named (named_line c a b) a b (drafted d))
+-- a line that fits is taken, unless the sheet is full
 
--- a write that the sheet has nothing against is taken, unless the sheet is full
-
-get_d_some : {A : Type 0} (xs : List A) (k : ℕ) (d : A) → k < length xs → get_or (map (λ (x : A). Some x) xs) k None ≡ Some (get_or xs k d)
-get_d_some [] k d lt = absurd (omega (arith, lt))
-get_d_some (x ∷ xs) zero d lt = refl
-get_d_some (x ∷ xs) (suc k) d lt = get_d_some xs k d (omega (arith, lt))
-
-named : (c a b : ℕ) → c < 12 → named_line c a b ≡ Some (coded c a b)
-named c a b lt = get_d_some (lines_with a b) c blank lt
+-- a line that names lower lines fits
+lower_fits : (n : ℕ) (x : Line) → Lower n x → fits n x ≡ true
+lower_fits n (Const v) h = refl
+lower_fits n (Signal a) h = grind (arith, nat_tests)
+lower_fits n (Not a) h = grind (arith, nat_tests)
+lower_fits n (And a b) h = grind (arith, nat_tests)
+lower_fits n (Or a b) h = grind (arith, nat_tests)
+lower_fits n (Next a) h = grind (arith, nat_tests)
+lower_fits n (Until a b) h = grind (arith, nat_tests)
+lower_fits n (WeakUntil a b) h = grind (arith, nat_tests)
+lower_fits n (Previous a) h = grind (arith, nat_tests)
+lower_fits n (WeakPrevious a) h = grind (arith, nat_tests)
+lower_fits n (Since a b) h = grind (arith, nat_tests)
+lower_fits n (WeakSince a b) h = grind (arith, nat_tests)
 
 abbrev pub Took : List Line → List Line → Line → Result ℕ Refusal → Type 0
 Took ls new x (Ok n) = (n ≡ length ls) × (new ≡ ls ++ x ∷ []) × (length ls < 64)
@@ -66,9 +68,7 @@ took l m x false t le (Ok n) w =
     (let h = ap (λ (p : Answer × Ledger). p.0) w in cc, ap (λ (p : Answer × Ledger). p.1.lines) w, (let ne : length l.lines ≡ 64 → ⊥ = λ e. grind (arith, nat_tests) in grind arith))
 took l m x false t le (Err e) w = absurd (let h = ap (λ (p : Answer × Ledger). p.0) w in let z : ◌≡◌ {A = ℕ} 0 1 = cc in omega arith)
 
-pub fed_took : (d e : Draft) (r : Result ℕ Refusal) (c a b : ℕ) → Allowed c a b (length (lines_of d))
-    → (written r, drafted e) ≡ fed (drafted d) (Write c a b) → Took (lines_of d) (lines_of e) (coded c a b) r
-fed_took d e r c a b ok w =
-    took (drafted d) (drafted e) (coded c a b) (eqb (length (lines_of d)) 64) refl (few d) r
-    (w ∙ ap (λ (o : Option Line). put_named o a b (drafted d)) (named c a b ok.0)
-    ∙ ap (λ (t : Bool). cond t (put (coded c a b) (drafted d)) (Refused 2, drafted d)) ok.1)
+pub pushed_took : (d e : Draft) (r : Result ℕ Refusal) (x : Line) → Lower (length (lines_of d)) x → (written r, drafted e) ≡ pushed (drafted d) x → Took (lines_of d) (lines_of e) x r
+pushed_took d e r x low w =
+    took (drafted d) (drafted e) x (eqb (length (lines_of d)) 64) refl (few d) r
+    (w ∙ ap (λ (t : Bool). cond t (put x (drafted d)) (Refused 2, drafted d)) (lower_fits (length (lines_of d)) x low))

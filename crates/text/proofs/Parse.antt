@@ -1,11 +1,11 @@
 -- What each way through the reader shows.
-use Rattle.std.proofs.Common.{◌≡◌, ℕ, ◌+◌, ◌-◌, ◌<◌, ◌≤◌, eqb, ◌⊎◌, List, [], ◌∷◌, ◌++◌, length, get_or, drop, IsErrAnd, Some, Ok, Err, Result, sym, ap, ◌∙◌, subst, inl, inr, arith, Bor}
+use Rattle.std.proofs.Common.{◌≡◌, ℕ, ◌+◌, ◌-◌, ◌<◌, ◌≤◌, Bool, true, false, cond, eqb, refl, ◌⊎◌, List, [], ◌∷◌, ◌++◌, length, get_or, drop, IsErrAnd, Some, Ok, Err, Result, sym, ap, ◌∙◌, subst, inl, inr, arith, Bor}
 use Rattle.std.proofs.lemmas.List.{append_assoc, length_push, drop_more, take-append-drop, drop-drop, get_or_past}
 use Rattle.std.proofs.lemmas.Result.{err_from_is_err_and}
 use Rattle.lexer.specs.declared.token.Token.{Token}
 use Rattle.lexer.specs.declared.token.Token.TheVariants.{Sign, Digit, Name}
 use Rattle.lexer.specs.Names.{Letter, Letters}
-use Rattle.lexer.specs.Tokens.{Among, signs, digits, NoToken, ByteToken, NameToken, IsToken}
+use Rattle.lexer.specs.Tokens.{Among, signs, digits, NoToken, ByteToken, NameToken, IsToken, digit_of}
 use Rattle.sheet.specs.declared.line.Line.{Line}
 use Rattle.sheet.specs.declared.line.Line.TheVariants as line
 use Rattle.sheet.specs.declared.refusal.Refusal.TheVariants.{Full}
@@ -93,22 +93,40 @@ past_letters text at end s l m = by_place (near end (length text))
 room : (before after own : List Line) (at n : ℕ) → Wrote before after own at (Ok n) → length after ≤ 64
 room before after own at n w = omega (arith, w.1, w.2)
 
-pub whole_truth : (names : List (List ℕ)) (text : List ℕ) (n : ℕ) (before after : List Line) (at : ℕ) (d : Done) (b v : ℕ)
-    → ByteToken digits text at b d.end → (48 + v ≡ b) × (v ≤ 1) → Wrote before after (line.Const (eqb v 1) ∷ []) at (Ok d.line)
-    → Whole names text n before after at d (truth v)
-whole_truth names text n before after at d b v t vs w = record {
-  reads = record {
-    spells = here text at (48 + v) (t.within, sym t.byte ∙ sym vs.0) ∙ ap (λ (k : ℕ). (48 + v) ∷ drop k text) (sym t.next);
-    within = (let x = t.within in let y = t.next in omega (arith, x, y));
-    onward = (let y = t.next in omega (arith, y));
-    fits = vs.1;
-    room = subst (λ (ls : List Line). length ls ≤ 64) w.0 (room before after _ at _ w);
-    whole = subst (λ (k : ℕ). Letter (get_or text (k - 1) 0) → Letter (get_or text k 0) → ⊥) (sym t.next)
-        (past_byte text at (λ l. digit_no_letter b t.among (subst (λ (x : ℕ). Letter x) (sym t.byte) l)));
-  };
-  lines = w.0;
-  line = w.1;
-}
+-- the number of a truth value
+abbrev pub value_of : Bool → ℕ
+value_of v = cond v 1 0
+
+digit_value : (v : Bool) → 48 + value_of v ≡ digit_of v
+digit_value true = refl
+digit_value false = refl
+
+few_values : (v : Bool) → value_of v ≤ 1
+few_values true = omega arith
+few_values false = omega arith
+
+const_lines : (v : Bool) → line.Const v ≡ line.Const (eqb (value_of v) 1)
+const_lines true = refl
+const_lines false = refl
+
+pub whole_truth : (names : List (List ℕ)) (text : List ℕ) (n : ℕ) (before after : List Line) (at : ℕ) (d : Done) (v : Bool)
+    → ByteToken digits text at (digit_of v) d.end → Wrote before after (line.Const v ∷ []) at (Ok d.line)
+    → Whole names text n before after at d (truth (value_of v))
+whole_truth names text n before after at d v t w =
+    let all : after ≡ before ++ line.Const (eqb (value_of v) 1) ∷ [] = w.0 ∙ ap (λ (x : Line). before ++ x ∷ []) (const_lines v) in
+    record {
+      reads = record {
+        spells = here text at (48 + value_of v) (t.within, sym t.byte ∙ sym (digit_value v)) ∙ ap (λ (k : ℕ). (48 + value_of v) ∷ drop k text) (sym t.next);
+        within = (let x = t.within in let y = t.next in omega (arith, x, y));
+        onward = (let y = t.next in omega (arith, y));
+        fits = few_values v;
+        room = subst (λ (ls : List Line). length ls ≤ 64) all (room before after _ at _ w);
+        whole = subst (λ (k : ℕ). Letter (get_or text (k - 1) 0) → Letter (get_or text k 0) → ⊥) (sym t.next)
+            (past_byte text at (λ l. digit_no_letter (digit_of v) t.among (subst (λ (x : ℕ). Letter x) (sym t.byte) l)));
+      };
+      lines = all;
+      line = w.1;
+    }
 
 pub whole_signal : (names : List (List ℕ)) (text : List ℕ) (n : ℕ) (before after : List Line) (at : ℕ) (d : Done) (name : List ℕ) (place k : ℕ)
     → NameToken text at name place d.end → k < length names → get_or names k [] ≡ name → Wrote before after (line.Signal k ∷ []) place (Ok d.line)
@@ -251,12 +269,12 @@ fault_under_full names text n before mid at p r inner f o lt v wrote =
     subst P (sym wrote.0) (full_under p r o lt v.reads
     (subst (λ (ls : List Line). 64 < length ls) (lines_under names text (n + 1) before mid (at + 1) inner p r v) wrote.1))
 
-pub fault_digit_full : (names : List (List ℕ)) (text : List ℕ) (n : ℕ) (before : List Line) (at b v end : ℕ) (f : Fault)
-    → ByteToken digits text at b end → (48 + v ≡ b) × (v ≤ 1) → length before ≤ 64 → Wrote before [] (line.Const (eqb v 1) ∷ []) at (Err f) → Faulty names text n before at f
-fault_digit_full names text n before at b v end f t vs few wrote =
+pub fault_digit_full : (names : List (List ℕ)) (text : List ℕ) (n : ℕ) (before : List Line) (at end : ℕ) (v : Bool) (f : Fault)
+    → ByteToken digits text at (digit_of v) end → length before ≤ 64 → Wrote before [] (line.Const v ∷ []) at (Err f) → Faulty names text n before at f
+fault_digit_full names text n before at end v f t few wrote =
     let P : Fault → Type 0 = λ x. Faulty names text n before at x in
-    subst P (sym wrote.0) (full_digit v vs.1 (t.within, sym t.byte ∙ sym vs.0)
-    (let l = length_push before (line.Const (eqb v 1)) in omega (arith, l, few, wrote.1)))
+    subst P (sym wrote.0) (full_digit (value_of v) (few_values v) (t.within, sym t.byte ∙ sym (digit_value v))
+    (let l = length_push before (line.Const v) in omega (arith, l, few, wrote.1)))
 
 pub fault_name_full : (names : List (List ℕ)) (text : List ℕ) (n : ℕ) (before : List Line) (at : ℕ) (name : List ℕ) (place k end : ℕ) (f : Fault)
     → NameToken text at name place end → (k < length names) × (get_or names k [] ≡ name) → length before ≤ 64
@@ -278,8 +296,8 @@ pub token_name : (text : List ℕ) (at : ℕ) (t : Token) (after : ℕ) (b : Bor
     → t ≡ Name b place → IsToken text at (Some (t, after)) → NameToken text at b.now place after
 token_name text at t after b place e h = let P : Token → Type 0 = λ x. IsToken text at (Some (x, after)) in subst P e h
 
-pub token_digit : (text : List ℕ) (at : ℕ) (t : Token) (after b : ℕ) → t ≡ Digit b → IsToken text at (Some (t, after)) → ByteToken digits text at b after
-token_digit text at t after b e h = let P : Token → Type 0 = λ x. IsToken text at (Some (x, after)) in subst P e h
+pub token_digit : (text : List ℕ) (at : ℕ) (t : Token) (after : ℕ) (v : Bool) → t ≡ Digit v → IsToken text at (Some (t, after)) → ByteToken digits text at (digit_of v) after
+token_digit text at t after v e h = let P : Token → Type 0 = λ x. IsToken text at (Some (x, after)) in subst P e h
 
 pub token_sign : (text : List ℕ) (at : ℕ) (t : Token) (after b : ℕ) → t ≡ Sign b → IsToken text at (Some (t, after)) → ByteToken signs text at b after
 token_sign text at t after b e h = let P : Token → Type 0 = λ x. IsToken text at (Some (x, after)) in subst P e h

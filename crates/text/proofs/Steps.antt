@@ -1,7 +1,5 @@
 -- Lemmas on the lines that are written.
-use Rattle.std.proofs.Common.{◌≡◌, ℕ, ◌<◌, ◌≤◌, Bool, true, ltb, List, [], ◌∷◌, ◌++◌, length, Ok, Err, Result, sym, refl, ap, ◌∙◌, subst, arith, lit<}
-use Rattle.std.proofs.lemmas.Bool.{and_from}
-use Rattle.std.proofs.lemmas.Bool.Decides.{nat_tests}
+use Rattle.std.proofs.Common.{◌≡◌, ℕ, ◌≤◌, List, [], ◌∷◌, ◌++◌, length, Ok, Err, Result, sym, refl, ap, ◌∙◌, subst, arith}
 use Rattle.std.proofs.lemmas.List.{append-nil, append_assoc, length_push, length-append}
 use Rattle.sheet.specs.declared.line.Line.{Line}
 use Rattle.sheet.specs.declared.refusal.Refusal.{Refusal}
@@ -11,7 +9,7 @@ use Rattle.text.specs.declared.fault.Placed.{Placed}
 use Rattle.text.specs.declared.pending.Pending.{Pending}
 use Rattle.text.specs.Faults.{placed}
 use Rattle.text.specs.Guards.{Grown, Onward}
-use Rattle.text.specs.Steps.{Wrote, Allowed, TwoLines}
+use Rattle.text.specs.Steps.{Wrote}
 use Rattle.text.proofs.Feeding.{Took}
 
 -- lines that were added
@@ -68,22 +66,3 @@ pub wrote_both : (before mid after : List Line) (x : Line) (line : ℕ → Line)
 wrote_both before mid after x line m at r a b =
     let P : ℕ → Type 0 = λ v. Wrote before after (x ∷ line v ∷ []) at r in
     subst P (first_number before mid x m at a) (wrote_two before mid after x (line m) m at r a b)
-
--- the second of two lines may name the first and any line before it
-below : (a n : ℕ) → a < n → ltb a n ≡ true
-below a n h = grind (arith, nat_tests)
-
-pub second_left : (before mid : List Line) (x : Line) (m at c b : ℕ) → TwoLines c → Wrote before mid (x ∷ []) at (Ok m) → b < length before → Allowed c m b (length mid)
-second_left before mid x m at c b two a lt =
-    let l = length_push before x in
-    let k = ap length a.0 in
-    (two.0, ap (λ (f : ℕ → ℕ → ℕ → Bool). f (length mid) m b) (two.1 m b) ∙ and_from _ _ (below m (length mid) (omega (arith, a.1))) (below b (length mid) (omega (arith, l, k))))
-
-pub second_right : (before mid : List Line) (x : Line) (m at c b : ℕ) → TwoLines c → Wrote before mid (x ∷ []) at (Ok m) → b < length before → Allowed c b m (length mid)
-second_right before mid x m at c b two a lt =
-    let l = length_push before x in
-    let k = ap length a.0 in
-    (two.0, ap (λ (f : ℕ → ℕ → ℕ → Bool). f (length mid) b m) (two.1 b m) ∙ and_from _ _ (below b (length mid) (omega (arith, l, k))) (below m (length mid) (omega (arith, a.1))))
-
-pub signal_allowed : (k n : ℕ) → k < 32 → Allowed 1 k 0 n
-signal_allowed k n lt = (lit< tt, and_from _ _ (below k 32 lt) refl)

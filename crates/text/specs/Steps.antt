@@ -1,26 +1,13 @@
 -- What the parts of the reader answer and leave.
-use Rattle.std.specs.Prelude.{◌≡◌, ℕ, ◌+◌, ◌<◌, true, ◌⊎◌, List, ◌++◌, length, Ok, Err, Result, ◌≢◌, slice_index, slice_index_or}
+use Rattle.std.specs.Prelude.{◌≡◌, ℕ, ◌+◌, ◌<◌, ◌⊎◌, List, ◌++◌, length, Ok, Err, Result, ◌≢◌, slice_index}
 use Rattle.sheet.specs.declared.line.Line.{Line}
 use Rattle.sheet.specs.declared.refusal.Refusal.TheVariants.{Full}
-use Rattle.sheet.specs.Table.{lines_with, operands_of, two_lines, blank}
 use Rattle.text.specs.declared.sign.Infix.{Infix}
 use Rattle.text.specs.declared.reader.Done.{Done}
 use Rattle.text.specs.declared.fault.Fault.{Fault}
 use Rattle.text.specs.declared.fault.Fault.TheVariants.{Byte, Early, Sheet as OfSheet}
 use Rattle.text.specs.Rules.{Rule, written, infix_sign}
 use Rattle.text.specs.Reading.{Reads, Stands, Faulty}
-
--- the line of a code up to 11 and its operands
-abbrev pub coded : ℕ → ℕ → ℕ → Line
-coded c a b = slice_index_or (lines_with a b) c blank
-
--- a sheet of n lines has nothing against this code and these operands
-abbrev pub Allowed : ℕ → ℕ → ℕ → ℕ → Type 0
-Allowed c a b n = (c < 12) × (operands_of (coded c a b) n a b ≡ true)
-
--- the code of a line that names two lines
-abbrev pub TwoLines : ℕ → Type 0
-TwoLines c = (c < 12) × ((a b : ℕ) → operands_of (coded c a b) ≡ two_lines)
 
 -- the sheet took all these lines, or was full before the last of them
 abbrev pub Wrote : List Line → List Line → List Line → ℕ → Result ℕ Fault → Type 0

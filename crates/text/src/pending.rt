@@ -1,10 +1,11 @@
 // The guard over a draft: lines that are written through it are taken back unless the whole rule is accepted.
 ghost use Rattle.std.specs.Prelude.{◌≡◌, length, take};
-ghost use Rattle.sheet.specs.Ledger.{fed, Write};
+ghost use Rattle.sheet.specs.Ledger.{pushed};
 ghost use Rattle.sheet.specs.Sheets.{drafted, lines_of, written};
 ghost use Rattle.text.specs.Guards.{Onward, held};
 
 use sheet::draft::Draft;
+use sheet::line::Line;
 use sheet::refusal::Refusal;
 
 /// Lines that are written into a draft. Let go, it puts the draft's count back to what it was.
@@ -34,12 +35,12 @@ impl<'a> Pending<'a> {
         Pending { draft, kept }
     }
 
-    /// Writes a line into the draft.
-    pub fn write(&mut self, code: u8, left: u8, right: u8) -> Result<u8, Refusal>
-        ensures wrote { (written result, drafted self.new.draft.now) ≡ fed (drafted self.old.draft.now) (Write code left right) }
+    /// Adds a line to the draft.
+    pub fn push(&mut self, line: Line) -> Result<u8, Refusal>
+        ensures adds { (written result, drafted self.new.draft.now) ≡ pushed (drafted self.old.draft.now) line }
         ensures onward { Onward self.old self.new }
     {
-        self.draft.write(code, left, right)
+        self.draft.push(line)
     }
 
     /// Leaves the lines in the draft.

@@ -3,9 +3,8 @@ ghost use Rattle.std.specs.Prelude.{◌≡◌, ◌+◌, ◌<◌, ◌≤◌, leng
 ghost use Rattle.sheet.specs.Sheets.{lines_of};
 ghost use Rattle.text.specs.Guards.{Onward, held};
 ghost use Rattle.lexer.specs.Names.{Good, known, line_of};
-ghost use Rattle.text.specs.Reading.{FullAlone, Stands, Unambiguous, Verdict};
+ghost use Rattle.text.specs.Reading.{FullAlone, Read, Stands, Unambiguous, Verdict};
 ghost use Rattle.text.specs.Steps.{CloseAt, InfixAt, Outcome};
-ghost use Rattle.lexer.specs.Tokens.{Among, digits};
 
 use crate::fault::Fault;
 use crate::pending::Pending;
@@ -13,6 +12,8 @@ use crate::sign::{Infix, Prefix};
 use lexer::names::Names;
 use lexer::token::{Token, next_token};
 use sheet::draft::Draft;
+use sheet::line::Line;
+use sheet::sealed::Sealed;
 
 // The bytes that a rule text may have, and the levels of a rule.
 const LONGEST: usize = 4096;
@@ -24,16 +25,6 @@ const DEEPEST: u8 = 32;
 struct Done {
     line: u8,
     end: usize,
-}
-
-fn digit_value(digit: char) -> u8
-    requires { Among digits digit }
-    ensures { (48 + result ≡ digit) × (result ≤ 1) }
-{
-    match digit {
-        '1' => 1,
-        _ => 0,
-    }
 }
 
 // The sign of a pair at `at`.
@@ -90,11 +81,11 @@ fn unit(
             let Some(number) = names.find(bytes) else {
                 return Err(Fault::Unknown { at: place });
             };
-            let line = pending.put(place, 1, number, 0)?;
+            let line = pending.put(place, Line::Signal(number))?;
             Ok(Done { line, end: after })
         }
-        Token::Digit(digit) => {
-            let line = pending.put(at, 0, digit_value(digit), 0)?;
+        Token::Digit(value) => {
+            let line = pending.put(at, Line::Const(value))?;
             Ok(Done { line, end: after })
         }
         Token::Sign(sign) => match sign {
@@ -162,4 +153,16 @@ pub fn read_rule(draft: &mut Draft, names: &Names, text: &[u8]) -> Result<u8, Fa
     }
     pending.accept();
     Ok(rule.line)
+}
+
+/// Reads the rule of the text onto a sheet of its own, and seals it.
+pub fn read_sheet(names: &Names, text: &[u8]) -> Result<Sealed, Fault>
+    ensures { Read (known names.now) text.now result }
+{
+    let mut draft = Draft::new();
+    let _ = read_rule(&mut draft, names, text)?;
+    let Ok(sheet) = draft.seal() else {
+        unreachable()
+    };
+    Ok(sheet)
 }

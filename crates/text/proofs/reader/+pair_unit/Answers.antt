@@ -5,7 +5,7 @@ use Rattle.text.proofs.Parse.{outcome_err, no_token, no_prefix, whole_truth, who
 use Rattle.lexer.specs.Names.{line_of}
 use Rattle.text.proofs.Feeding.{few}
 use Rattle.lexer.proofs.Naming.{few as few_names}
-use Rattle.text.proofs.Steps.{onward_none, onward_then, grown_length, signal_allowed}
+use Rattle.text.proofs.Steps.{onward_none, onward_then, grown_length}
 use Rattle.text.proofs.reader.+pair_unit.Goals as goal
 
 pub pair-put_infix-requires : goal.pair-put_infix-requires
@@ -16,7 +16,7 @@ pair-put_infix-requires t c =
     record { left = omega (arith, l, g); right = omega (arith, r) }
 
 pub unit-put-requires : goal.unit-put-requires
-unit-put-requires t c = signal_allowed _ 0 (omega (arith, c.in-Some-find.ensures.0, few_names (line_of c.args.names.now)))
+unit-put-requires t c = omega (arith, c.in-Some-find.ensures.0, few_names (line_of c.args.names.now))
 
 pub pair-returns-then-level-ge-DEEPEST : goal.pair-returns-then-level-ge-DEEPEST
 pair-returns-then-level-ge-DEEPEST t c = record { outcome = deep_pair c.requires.start (omega arith); onward = onward_none _ }
@@ -92,7 +92,7 @@ unit-returns-in_err-line-in-Name t c = record {
 pub unit-returns-in_err-line-in-Digit : goal.unit-returns-in_err-line-in-Digit
 unit-returns-in_err-line-in-Digit t c = record {
   outcome = outcome_err _ _ _ _ _ _ _ _ c.from_residual-in_err-line-in-Digit.ensures.1
-      (fault_digit_full _ _ _ _ _ _ _ _ _ (token_digit _ _ _ _ _ c.in-Digit.is c.in-Some.ensures) c.digit_value.ensures (few c.args.pending.now.draft.now) c.in_err-line-in-Digit.ensures.wrote);
+      (fault_digit_full _ _ _ _ _ _ _ _ (token_digit _ _ _ _ _ c.in-Digit.is c.in-Some.ensures) (few c.args.pending.now.draft.now) c.in_err-line-in-Digit.ensures.wrote);
   onward = c.in_err-line-in-Digit.ensures.onward;
 }
 
@@ -135,7 +135,7 @@ unit-returns-in_ok-line-in-Name t c = record {
 
 pub unit-returns-in_ok-line-in-Digit : goal.unit-returns-in_ok-line-in-Digit
 unit-returns-in_ok-line-in-Digit t c = record {
-  outcome = (truth _, whole_truth _ _ _ _ _ _ _ _ _ (token_digit _ _ _ _ _ c.in-Digit.is c.in-Some.ensures) c.digit_value.ensures c.in_ok-line-in-Digit.ensures.wrote);
+  outcome = (truth _, whole_truth _ _ _ _ _ _ _ _ (token_digit _ _ _ _ _ c.in-Digit.is c.in-Some.ensures) c.in_ok-line-in-Digit.ensures.wrote);
   onward = c.in_ok-line-in-Digit.ensures.onward;
 }
 
