@@ -98,11 +98,10 @@ fn answer_all(rt: &HostRuntime, text: &[u8]) -> anyhow::Result<()> {
 }
 
 fn main(rt: HostRuntime) -> anyhow::Result<()> {
-    let mut buf = vec![in rt.alloc(); 0u8; MOST + 1]?;
-    let used = read_input(&rt, buf.as_mut_slice())?;
-    if used > MOST {
+    let text = read_input(&rt, MOST + 1)?;
+    if text.len() > MOST {
         println!(rt; "unread: too long")?;
         return Ok(());
     }
-    answer_all(&rt, &buf.as_slice()[0..used])
+    answer_all(&rt, &text)
 }

@@ -1,27 +1,10 @@
 // How a report and a refusal print.
 ghost use Rattle.std.specs.Prelude.{Some};
-ghost use Rattle.bench_file.specs.Printing.{verdict_text, report_text, place_text, refused_text};
+ghost use Rattle.bench_file.specs.Printing.{report_text, place_text, refused_text};
 
-use crate::outcome::{Refused, Report};
-use recording::truth::Ternary;
+use crate::outcome::{Report, ReportRefusal};
 use std::fmt;
 use tables::printed::Printed;
-
-// A verdict.
-#[derive(Clone, Copy)]
-struct Verdict(Ternary);
-
-impl fmt::Display for Verdict {
-    ghost output = { λ v. Some (verdict_text v.0) };
-
-    fn fmt<W: fmt::Write>(&self, f: &mut fmt::Formatter<W>) -> fmt::Result {
-        match self.0 {
-            Ternary::No => write!(f, "no"),
-            Ternary::Lost => write!(f, "lost"),
-            Ternary::Yes => write!(f, "yes"),
-        }
-    }
-}
 
 impl fmt::Display for Report {
     ghost output = { λ r. Some (report_text r) };
@@ -30,7 +13,7 @@ impl fmt::Display for Report {
         let printed = Printed {
             machine: &self.machine,
         };
-        let verdict = Verdict(self.verdict);
+        let verdict = self.verdict;
         write!(f, "{printed}verdict\n{verdict}\n")
     }
 }
@@ -50,12 +33,12 @@ impl fmt::Display for Place {
     }
 }
 
-impl fmt::Display for Refused {
+impl fmt::Display for ReportRefusal {
     ghost output = { λ r. Some (refused_text r) };
 
     fn fmt<W: fmt::Write>(&self, f: &mut fmt::Formatter<W>) -> fmt::Result {
-        let number = self.number;
-        let place = Place(self.place);
+        let number = self.number();
+        let place = Place(self.place());
         write!(f, "number place\n{number} {place}\n")
     }
 }
