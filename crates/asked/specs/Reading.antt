@@ -79,6 +79,10 @@ bench_verb (bench.Cells n) = verb.Cells
 bench_verb (bench.Rows n) = verb.Rows
 bench_verb (bench.Check back rows) = verb.Check
 
+abbrev pub call_verb : Call → Verb
+call_verb (call.OnSheet c) = sheet_verb c
+call_verb (call.OnBench c) = bench_verb c
+
 -- a number past 8 bits counts as 255, which is refused like it
 abbrev pub byte : ℕ → ℕ
 byte n = min n 255

@@ -1,4 +1,5 @@
 pub mod reading;
+pub mod runs;
 
 /// The name of a call.
 #[derive(Clone, Copy)]

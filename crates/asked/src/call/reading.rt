@@ -1,7 +1,7 @@
 // Which call a line of a script is.
 ghost use Rattle.std.specs.Prelude.{◌≡◌, ◌≤◌, length, IfOk};
 ghost use Rattle.std.specs.Str.{bytes_eq};
-ghost use Rattle.asked.specs.Reading.{Cells, Rows, byte as byte_of, verb_of, alone as alone_of, writes, sizes_in, tapes, gaps, turns, lends, checks, call_of, items_in, call_on, sheet_verb, bench_verb, said, said_in};
+ghost use Rattle.asked.specs.Reading.{Cells, Rows, byte as byte_of, verb_of, alone as alone_of, writes, sizes_in, tapes, gaps, turns, lends, checks, call_of, items_in, call_on, sheet_verb, bench_verb, call_verb, said, said_in};
 ghost use Rattle.asked.specs.Words.{numbers};
 ghost use Rattle.lexer.specs.Parts.{parts};
 
@@ -39,6 +39,18 @@ impl BenchCall {
             BenchCall::Cells(_) => Verb::Cells,
             BenchCall::Rows(_) => Verb::Rows,
             BenchCall::Check(_, _) => Verb::Check,
+        }
+    }
+}
+
+impl Call {
+    /// Its name.
+    pub fn verb(&self) -> Verb
+        ensures { result ≡ call_verb self.now }
+    {
+        match self {
+            Call::OnSheet(call) => call.verb(),
+            Call::OnBench(call) => call.verb(),
         }
     }
 }
