@@ -1,6 +1,9 @@
 // Reads calls from standard input, one a line, and prints each answer before the next call is made.
 #![tactic(auto)]
 
+ghost use Rattle.std.specs.Prelude.{◌≡◌, IfOk, OnErr};
+ghost use Rattle.talk.specs.Desks.{Tells};
+
 use asked::call::Call;
 use asked::call::reading::read_call;
 use input::read_input;
@@ -39,8 +42,11 @@ impl Desk {
         })
     }
 
-    // Makes the call.
-    fn answer(&mut self, heap: Global, call: Call) -> Result<Told, AllocError> {
+    // Makes the call; where memory is short, it changes nothing.
+    fn answer(&mut self, heap: Global, call: Call) -> Result<Told, AllocError>
+        ensures tells { IfOk result (Tells call self.old self.new) }
+        ensures short { OnErr result (self.new ≡ self.old) }
+    {
         let verb = call.verb();
         let answer = match call {
             Call::OnSheet(call) => {
