@@ -116,6 +116,10 @@ gaps ns = cond (nat_le 3 (length ns)) (Some (halved (sizes_in ns) (drop 3 ns))) 
 abbrev pub turns : List ℕ → Option Said
 turns ns = cond (length ns == 3) (Some (Wheel (slice_index ns 0) (slice_index ns 1) (slice_index ns 2))) None
 
+-- the number, if it is one alone
+abbrev pub only : List ℕ → Option ℕ
+only ns = cond (length ns == 1) (Some (slice_index ns 0)) None
+
 -- how many cells or rows are lent
 abbrev pub lends : (ℕ → Said) → List ℕ → Option Said
 lends these ns = cond (length ns == 1) (Some (these (slice_index ns 0))) None
