@@ -1,6 +1,6 @@
 // Which call a line of a script is.
-ghost use Rattle.std.specs.Prelude.{◌≡◌, IfOk};
-ghost use Rattle.asked.specs.Reading.{OnSheet, byte as byte_of, verb_of, alone as alone_of, only as only_of, writes, tapes, gaps, turns, checks, call_of, items_in, call_on, sheet_verb, bench_verb, call_verb, said, said_in};
+ghost use Rattle.std.specs.Prelude.{◌≡◌, ◌<◌, ◌↔◌, length, drop, IfOk, IfSome, IsNone};
+ghost use Rattle.asked.specs.Reading.{OnSheet, byte as byte_of, verb_of, alone as alone_of, only as only_of, writes, sizes_in, tapes, gaps, turns, checks, call_of, items_in, call_on, sheet_verb, bench_verb, call_verb, said, said_in};
 ghost use Rattle.asked.specs.Words.{numbers};
 ghost use Rattle.lexer.specs.Parts.{parts};
 
@@ -107,16 +107,28 @@ fn write_call(numbers: &[u128]) -> Option<Call>
     Some(Call::OnSheet(SheetCall::Write(byte(*code), byte(*left), byte(*right))))
 }
 
-fn tape_call(heap: Global, numbers: &[u128]) -> Result<Option<Call>, AllocError>
-    ensures { IfOk result (λ o. said_in o ≡ tapes numbers.now) }
+// The sizes that the first three numbers are, and the numbers after them.
+fn sized(numbers: &[u128]) -> Option<(TapeSizes, &[u128])>
+    ensures few { IsNone result ↔ (length numbers.now < 3) }
+    ensures sizes { IfSome result (λ p. p.0 ≡ sizes_in numbers.now) }
+    ensures rest { IfSome result (λ p. p.1.now ≡ drop 3 numbers.now) }
 {
-    let [signals, stem, cycle, masks @ ..] = numbers else {
-        return Ok(None);
+    let [signals, stem, cycle, rest @ ..] = numbers else {
+        return None;
     };
     let sizes = TapeSizes {
         signals: *signals,
         stem: *stem,
         cycle: *cycle,
+    };
+    Some((sizes, rest))
+}
+
+fn tape_call(heap: Global, numbers: &[u128]) -> Result<Option<Call>, AllocError>
+    ensures { IfOk result (λ o. said_in o ≡ tapes numbers.now) }
+{
+    let Some((sizes, masks)) = sized(numbers) else {
+        return Ok(None);
     };
     let masks = Vec::from_slice(heap, masks)?;
     Ok(Some(Call::OnBench(BenchCall::Tape(sizes, masks))))
@@ -125,13 +137,8 @@ fn tape_call(heap: Global, numbers: &[u128]) -> Result<Option<Call>, AllocError>
 fn gapped_call(heap: Global, numbers: &[u128]) -> Result<Option<Call>, AllocError>
     ensures { IfOk result (λ o. said_in o ≡ gaps numbers.now) }
 {
-    let [signals, stem, cycle, masks @ ..] = numbers else {
+    let Some((sizes, masks)) = sized(numbers) else {
         return Ok(None);
-    };
-    let sizes = TapeSizes {
-        signals: *signals,
-        stem: *stem,
-        cycle: *cycle,
     };
     let (masks, lost) = masks.split_at(masks.len() - masks.len() / 2);
     let masks = Vec::from_slice(heap, masks)?;
