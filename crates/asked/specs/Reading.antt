@@ -79,6 +79,10 @@ bench_verb (bench.Cells n) = verb.Cells
 bench_verb (bench.Rows n) = verb.Rows
 bench_verb (bench.Check back rows) = verb.Check
 
+abbrev pub call_verb : Call → Verb
+call_verb (call.OnSheet c) = sheet_verb c
+call_verb (call.OnBench c) = bench_verb c
+
 -- a number past 8 bits counts as 255, which is refused like it
 abbrev pub byte : ℕ → ℕ
 byte n = min n 255
@@ -111,6 +115,10 @@ gaps ns = cond (nat_le 3 (length ns)) (Some (halved (sizes_in ns) (drop 3 ns))) 
 
 abbrev pub turns : List ℕ → Option Said
 turns ns = cond (length ns == 3) (Some (Wheel (slice_index ns 0) (slice_index ns 1) (slice_index ns 2))) None
+
+-- the number, if it is one alone
+abbrev pub only : List ℕ → Option ℕ
+only ns = cond (length ns == 1) (Some (slice_index ns 0)) None
 
 -- how many cells or rows are lent
 abbrev pub lends : (ℕ → Said) → List ℕ → Option Said

@@ -1,7 +1,8 @@
 pub mod reading;
+pub mod runs;
 
 /// The name of a call.
-#[derive(Clone, Copy)]
+#[derive(Clone, Copy, PartialEq, Eq, Debug)]
 pub enum Verb {
     Write,
     Strike,
@@ -19,7 +20,7 @@ pub enum Verb {
 }
 
 /// A call on the sheet, with what it takes.
-#[derive(Clone, Copy)]
+#[derive(Clone, Copy, PartialEq, Eq, Debug)]
 pub enum SheetCall {
     /// code, left and right
     Write(u8, u8, u8),
@@ -33,7 +34,7 @@ pub enum SheetCall {
 }
 
 /// The sizes that a tape is asked for with.
-#[derive(Clone, Copy)]
+#[derive(Clone, Copy, PartialEq, Eq, Debug)]
 pub struct TapeSizes {
     pub signals: u128,
     pub stem: u128,

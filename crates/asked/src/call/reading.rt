@@ -1,7 +1,6 @@
 // Which call a line of a script is.
-ghost use Rattle.std.specs.Prelude.{◌≡◌, ◌≤◌, length, IfOk};
-ghost use Rattle.std.specs.Str.{bytes_eq};
-ghost use Rattle.asked.specs.Reading.{Cells, Rows, byte as byte_of, verb_of, alone as alone_of, writes, sizes_in, tapes, gaps, turns, lends, checks, call_of, items_in, call_on, sheet_verb, bench_verb, said, said_in};
+ghost use Rattle.std.specs.Prelude.{◌≡◌, ◌<◌, ◌↔◌, length, drop, IfOk, IfSome, IsNone};
+ghost use Rattle.asked.specs.Reading.{OnSheet, byte as byte_of, verb_of, alone as alone_of, only as only_of, writes, sizes_in, tapes, gaps, turns, checks, call_of, items_in, call_on, sheet_verb, bench_verb, call_verb, said, said_in};
 ghost use Rattle.asked.specs.Words.{numbers};
 ghost use Rattle.lexer.specs.Parts.{parts};
 
@@ -43,170 +42,146 @@ impl BenchCall {
     }
 }
 
-fn is(word: &[u8], name: &[u8]) -> bool
-    ensures { result ≡ bytes_eq word.now name.now }
-{
-    word == name
+impl Call {
+    /// Its name.
+    pub fn verb(&self) -> Verb
+        ensures { result ≡ call_verb self.now }
+    {
+        match self {
+            Call::OnSheet(call) => call.verb(),
+            Call::OnBench(call) => call.verb(),
+        }
+    }
 }
 
 fn named(word: &[u8]) -> Option<Verb>
     ensures { result ≡ verb_of word.now }
 {
-    if is(word, b"write") {
-        return Some(Verb::Write);
+    match word {
+        b"write" => Some(Verb::Write),
+        b"strike" => Some(Verb::Strike),
+        b"seal" => Some(Verb::Seal),
+        b"reopen" => Some(Verb::Reopen),
+        b"translate" => Some(Verb::Translate),
+        b"tape" => Some(Verb::Tape),
+        b"gapped" => Some(Verb::Gapped),
+        b"wheel" => Some(Verb::Wheel),
+        b"cells" => Some(Verb::Cells),
+        b"rows" => Some(Verb::Rows),
+        b"judge" => Some(Verb::Judge),
+        b"run" => Some(Verb::Run),
+        b"check" => Some(Verb::Check),
+        _ => None,
     }
-    if is(word, b"strike") {
-        return Some(Verb::Strike);
-    }
-    if is(word, b"seal") {
-        return Some(Verb::Seal);
-    }
-    if is(word, b"reopen") {
-        return Some(Verb::Reopen);
-    }
-    if is(word, b"translate") {
-        return Some(Verb::Translate);
-    }
-    if is(word, b"tape") {
-        return Some(Verb::Tape);
-    }
-    if is(word, b"gapped") {
-        return Some(Verb::Gapped);
-    }
-    if is(word, b"wheel") {
-        return Some(Verb::Wheel);
-    }
-    if is(word, b"cells") {
-        return Some(Verb::Cells);
-    }
-    if is(word, b"rows") {
-        return Some(Verb::Rows);
-    }
-    if is(word, b"judge") {
-        return Some(Verb::Judge);
-    }
-    if is(word, b"run") {
-        return Some(Verb::Run);
-    }
-    if is(word, b"check") {
-        return Some(Verb::Check);
-    }
-    None
 }
 
 fn byte(n: u128) -> u8
     ensures { result ≡ byte_of n }
 {
-    n.min(255) as u8
+    u8::try_from(n).unwrap_or(u8::MAX)
 }
 
-// A call that takes no number.
-fn alone(call: Call, numbers: &[u128]) -> Option<Call>
-    ensures { said_in result ≡ alone_of (said call) numbers.now }
+// A call on the sheet that takes no number.
+fn alone(call: SheetCall, numbers: &[u128]) -> Option<Call>
+    ensures { said_in result ≡ alone_of (OnSheet call) numbers.now }
 {
-    if numbers.len() == 0 { Some(call) } else { None }
+    numbers.is_empty().then_some(Call::OnSheet(call))
 }
 
-// The sizes that the first three numbers are.
-fn sizes_of(numbers: &[u128]) -> TapeSizes
-    requires { 3 ≤ length numbers.now }
-    ensures { result ≡ sizes_in numbers.now }
+// The number, if it is one alone.
+fn only(numbers: &[u128]) -> Option<u128>
+    ensures { result ≡ only_of numbers.now }
 {
-    TapeSizes {
-        signals: numbers[0],
-        stem: numbers[1],
-        cycle: numbers[2],
-    }
+    let [number] = numbers else {
+        return None;
+    };
+    Some(*number)
 }
 
 fn write_call(numbers: &[u128]) -> Option<Call>
     ensures { said_in result ≡ writes numbers.now }
 {
-    if numbers.len() != 3 {
+    let [code, left, right] = numbers else {
         return None;
-    }
-    Some(Call::OnSheet(SheetCall::Write(byte(numbers[0]), byte(numbers[1]), byte(numbers[2]))))
+    };
+    Some(Call::OnSheet(SheetCall::Write(byte(*code), byte(*left), byte(*right))))
 }
 
-fn tape_call(mut numbers: Vec<u128>) -> Result<Option<Call>, AllocError>
-    ensures { IfOk result (λ o. said_in o ≡ tapes numbers.items) }
+// The sizes that the first three numbers are, and the numbers after them.
+fn sized(numbers: &[u128]) -> Option<(TapeSizes, &[u128])>
+    ensures few { IsNone result ↔ (length numbers.now < 3) }
+    ensures sizes { IfSome result (λ p. p.0 ≡ sizes_in numbers.now) }
+    ensures rest { IfSome result (λ p. p.1.now ≡ drop 3 numbers.now) }
 {
-    if numbers.len() < 3 {
+    let [signals, stem, cycle, rest @ ..] = numbers else {
+        return None;
+    };
+    let sizes = TapeSizes {
+        signals: *signals,
+        stem: *stem,
+        cycle: *cycle,
+    };
+    Some((sizes, rest))
+}
+
+fn tape_call(heap: Global, numbers: &[u128]) -> Result<Option<Call>, AllocError>
+    ensures { IfOk result (λ o. said_in o ≡ tapes numbers.now) }
+{
+    let Some((sizes, masks)) = sized(numbers) else {
         return Ok(None);
-    }
-    let sizes = sizes_of(numbers.as_slice());
-    let masks = numbers.split_off(3)?;
+    };
+    let masks = Vec::from_slice(heap, masks)?;
     Ok(Some(Call::OnBench(BenchCall::Tape(sizes, masks))))
 }
 
-fn gapped_call(mut numbers: Vec<u128>) -> Result<Option<Call>, AllocError>
-    ensures { IfOk result (λ o. said_in o ≡ gaps numbers.items) }
+fn gapped_call(heap: Global, numbers: &[u128]) -> Result<Option<Call>, AllocError>
+    ensures { IfOk result (λ o. said_in o ≡ gaps numbers.now) }
 {
-    if numbers.len() < 3 {
+    let Some((sizes, masks)) = sized(numbers) else {
         return Ok(None);
-    }
-    let sizes = sizes_of(numbers.as_slice());
-    let mut masks = numbers.split_off(3)?;
-    let half = masks.len() - masks.len() / 2;
-    let lost = masks.split_off(half)?;
+    };
+    let (masks, lost) = masks.split_at(masks.len() - masks.len() / 2);
+    let masks = Vec::from_slice(heap, masks)?;
+    let lost = Vec::from_slice(heap, lost)?;
     Ok(Some(Call::OnBench(BenchCall::Gapped(sizes, masks, lost))))
 }
 
 fn wheel_call(numbers: &[u128]) -> Option<Call>
     ensures { said_in result ≡ turns numbers.now }
 {
-    if numbers.len() != 3 {
+    let [teeth, gap, start] = numbers else {
         return None;
-    }
-    Some(Call::OnBench(BenchCall::Wheel(numbers[0], numbers[1], numbers[2])))
+    };
+    Some(Call::OnBench(BenchCall::Wheel(*teeth, *gap, *start)))
 }
 
-fn cells_call(numbers: &[u128]) -> Option<Call>
-    ensures { said_in result ≡ lends Cells numbers.now }
+fn check_call(heap: Global, numbers: &[u128]) -> Result<Option<Call>, AllocError>
+    ensures { IfOk result (λ o. said_in o ≡ checks numbers.now) }
 {
-    if numbers.len() != 1 {
-        return None;
-    }
-    Some(Call::OnBench(BenchCall::Cells(numbers[0])))
-}
-
-fn rows_call(numbers: &[u128]) -> Option<Call>
-    ensures { said_in result ≡ lends Rows numbers.now }
-{
-    if numbers.len() != 1 {
-        return None;
-    }
-    Some(Call::OnBench(BenchCall::Rows(numbers[0])))
-}
-
-fn check_call(mut numbers: Vec<u128>) -> Result<Option<Call>, AllocError>
-    ensures { IfOk result (λ o. said_in o ≡ checks numbers.items) }
-{
-    if numbers.len() < 1 {
+    let [back, rows @ ..] = numbers else {
         return Ok(None);
-    }
-    let back = numbers[0];
-    let rows = numbers.split_off(1)?;
-    Ok(Some(Call::OnBench(BenchCall::Check(back, rows))))
+    };
+    let rows = Vec::from_slice(heap, rows)?;
+    Ok(Some(Call::OnBench(BenchCall::Check(*back, rows))))
 }
 
-fn with_numbers(verb: Verb, numbers: Vec<u128>) -> Result<Option<Call>, AllocError>
-    ensures { IfOk result (λ o. said_in o ≡ call_of verb numbers.items) }
+fn with_numbers(heap: Global, verb: Verb, numbers: &[u128]) -> Result<Option<Call>, AllocError>
+    ensures { IfOk result (λ o. said_in o ≡ call_of verb numbers.now) }
 {
     match verb {
-        Verb::Write => Ok(write_call(numbers.as_slice())),
-        Verb::Strike => Ok(alone(Call::OnSheet(SheetCall::Strike), numbers.as_slice())),
-        Verb::Seal => Ok(alone(Call::OnSheet(SheetCall::Seal), numbers.as_slice())),
-        Verb::Reopen => Ok(alone(Call::OnSheet(SheetCall::Reopen), numbers.as_slice())),
-        Verb::Translate => Ok(alone(Call::OnSheet(SheetCall::Translate), numbers.as_slice())),
-        Verb::Tape => tape_call(numbers),
-        Verb::Gapped => gapped_call(numbers),
-        Verb::Wheel => Ok(wheel_call(numbers.as_slice())),
-        Verb::Cells => Ok(cells_call(numbers.as_slice())),
-        Verb::Rows => Ok(rows_call(numbers.as_slice())),
-        Verb::Judge => Ok(alone(Call::OnSheet(SheetCall::Judge), numbers.as_slice())),
-        Verb::Run => Ok(alone(Call::OnSheet(SheetCall::Run), numbers.as_slice())),
-        Verb::Check => check_call(numbers),
+        Verb::Write => Ok(write_call(numbers)),
+        Verb::Strike => Ok(alone(SheetCall::Strike, numbers)),
+        Verb::Seal => Ok(alone(SheetCall::Seal, numbers)),
+        Verb::Reopen => Ok(alone(SheetCall::Reopen, numbers)),
+        Verb::Translate => Ok(alone(SheetCall::Translate, numbers)),
+        Verb::Tape => tape_call(heap, numbers),
+        Verb::Gapped => gapped_call(heap, numbers),
+        Verb::Wheel => Ok(wheel_call(numbers)),
+        Verb::Cells => Ok(only(numbers).map(|count| Call::OnBench(BenchCall::Cells(count)))),
+        Verb::Rows => Ok(only(numbers).map(|count| Call::OnBench(BenchCall::Rows(count)))),
+        Verb::Judge => Ok(alone(SheetCall::Judge, numbers)),
+        Verb::Run => Ok(alone(SheetCall::Run, numbers)),
+        Verb::Check => check_call(heap, numbers),
     }
 }
 
@@ -238,10 +213,12 @@ pub fn read_call(heap: Global, line: &[u8]) -> Result<Option<Call>, AllocError>
         return Ok(None);
     };
     match word.rest {
-        None => with_numbers(verb, Vec::new(heap)),
-        Some(rest) => match read_numbers(heap, rest)? {
-            Some(numbers) => with_numbers(verb, numbers),
-            None => Ok(None),
-        },
+        None => with_numbers(heap, verb, &[]),
+        Some(rest) => {
+            let Some(numbers) = read_numbers(heap, rest)? else {
+                return Ok(None);
+            };
+            with_numbers(heap, verb, numbers.as_slice())
+        }
     }
 }
