@@ -1,5 +1,5 @@
 // Lines whose value at a sample is told by lower lines, there or at the sample after.
-ghost use Rattle.std.specs.Prelude.{◌≡◌, ℕ, ◌<◌, ◌≤◌, length};
+ghost use Rattle.std.specs.Prelude.{◌≡◌, ℕ, ◌-◌, ◌<◌, ◌≤◌, length};
 ghost use Rattle.meaning.specs.Cells.{Room, column, Fills, IsRow};
 ghost use Rattle.meaning.specs.Columns.{following as next_sample};
 
@@ -27,8 +27,8 @@ pub(crate) fn fill<T: Truth, F: Fn(&[T], usize) -> T>(
 }
 
 pub(crate) fn fill_next<T: Truth>(cells: &mut [T], grid: Grid, line: usize, left: usize)
-    requires { (Room cells.old grid.width grid.samples) × ((line < grid.width) × ((left < line) × (grid.steady < grid.samples))) }
-    ensures { Fills T.means grid.width line cells.old (λ d t. column T.means cells.old grid.width left d (next_sample grid.steady grid.samples t)) 0 grid.samples cells.new }
+    requires { (Room cells.old grid.width grid.samples) × ((line < grid.width) × (left < line)) }
+    ensures { Fills T.means grid.width line cells.old (λ d t. column T.means cells.old grid.width left d (next_sample (grid.samples - grid.cycle) grid.samples t)) 0 grid.samples cells.new }
 {
     for t in 0..grid.samples {
         let value = grid.read(cells, left, grid.following(t));

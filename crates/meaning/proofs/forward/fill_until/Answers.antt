@@ -1,4 +1,4 @@
-use Rattle.std.proofs.Common.{◌≡◌, ◌-◌, ap, ◌∙◌, subst, ap₂, arith}
+use Rattle.std.proofs.Common.{◌≡◌, ℕ, ◌-◌, ap, ◌∙◌, subst, ap₂, arith}
 use Rattle.meaning.proofs.Filling.{fills_none, read_column, filled_down, filled_as}
 use Rattle.meaning.proofs.Sweeps.{pass_down, pass_none}
 use Rattle.meaning.specs.Cells.{column, Fills}
@@ -35,6 +35,11 @@ loop-t-preserved g c =
 
 pub returns : goal.returns
 returns g c =
+    let K = g.T.Truth in
+    let left = λ (d : g.row.T.Denot). column K.means c.args.cells.now c.args.grid.width c.args.left d in
+    let right = λ (d : g.row.T.Denot). column K.means c.args.cells.now c.args.grid.width c.args.right d in
+    let back : ℕ = c.args.grid.samples - c.args.grid.cycle in
     let e : c.loop-t.t ≡ 0 = omega arith in
-    filled_as (λ d t _ _. ap (pass g.T.Truth.kind (column g.T.Truth.means c.args.cells.now c.args.grid.width c.args.left d) (column g.T.Truth.means c.args.cells.now c.args.grid.width c.args.right d) t (c.args.grid.samples - t)) (c.sweep-held.ensures d))
-    (subst (λ s. Fills g.T.Truth.means c.args.grid.width c.args.line c.args.cells.now (λ d t. pass g.T.Truth.kind (column g.T.Truth.means c.args.cells.now c.args.grid.width c.args.left d) (column g.T.Truth.means c.args.cells.now c.args.grid.width c.args.right d) t (c.args.grid.samples - t) (g.T.Truth.means c.sweep-held.result)) s c.args.grid.samples c.loop-t.cells) e c.loop-t.invariant.0)
+    let m : c.args.grid.cycle ≡ c.args.grid.samples - (c.args.grid.samples - c.args.grid.cycle) = omega arith in
+    filled_as (λ d t _ _. ap (pass K.kind (left d) (right d) t (c.args.grid.samples - t)) (c.sweep-held.ensures d ∙ ap (λ n. pass K.kind (left d) (right d) back n (K.means c.args.start)) m))
+    (subst (λ s. Fills K.means c.args.grid.width c.args.line c.args.cells.now (λ d t. pass K.kind (left d) (right d) t (c.args.grid.samples - t) (K.means c.sweep-held.result)) s c.args.grid.samples c.loop-t.cells) e c.loop-t.invariant.0)
