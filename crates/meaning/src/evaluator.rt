@@ -4,7 +4,7 @@ ghost use Rattle.meaning.specs.Sheet.{constant, rule_of};
 ghost use Rattle.recording.specs.Word.{meant};
 ghost use Rattle.sheet.specs.Sheets.{sealed_lines};
 ghost use Rattle.sheet.specs.Table.{Lower, Named};
-ghost use Rattle.meaning.specs.Cells.{Room, column, Fills};
+ghost use Rattle.meaning.specs.Cells.{column, Fills, HasColumn};
 ghost use Rattle.meaning.specs.Columns.{written};
 ghost use Rattle.meaning.specs.Verdict.{Verdict};
 
@@ -37,8 +37,7 @@ fn fill_line<R: Recording>(
     one: Line,
     recording: &R,
 )
-    requires room { Room cells.old grid.width grid.samples }
-    requires below { number < grid.width }
+    requires column { HasColumn grid.width grid.samples number cells.old }
     requires lower { Lower number one }
     requires named { Named (R.Recording.word recording.now).signals one }
     ensures { Fills R.Truth.Truth.means grid.width number cells.old (λ d t. written R.Truth.Truth.kind (meant R.Truth.Truth.means (R.Recording.word recording.now)) (grid.samples - grid.cycle) grid.samples one (λ a. column R.Truth.Truth.means cells.old grid.width a d) t) 0 grid.samples cells.new }

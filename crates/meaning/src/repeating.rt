@@ -11,6 +11,7 @@ fn repeat_sample<T: Copy>(cells: &mut [T], grid: Grid, lines: usize, t: usize)
     requires turn { grid.cycle ≤ t }
     ensures { Repeated grid.width lines grid.cycle t (t + 1) cells.old cells.new }
 {
+    // by hand: `copy_within` asks for each row which way to go, and judging takes up to 8 in 100 more instructions
     for a in 0..lines {
         let value = grid.read(cells, a, t - grid.cycle);
         grid.put(cells, a, t, value);

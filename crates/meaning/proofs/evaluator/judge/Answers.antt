@@ -86,8 +86,7 @@ fill_line-requires g c =
     let turn = turn_is g.R.Truth.Truth.kind g.R.Truth.Truth.means w c.lines-lines.ensures.are c.lines-lines.ensures.sheet c.lines-lines.ensures.few e.has_signals c.loop-k-test.true c.loop-k.invariant.2 c.loop-k.invariant.3 c.depth_under.ensures c.looks_back.ensures c.from.ensures c.saturating_sub-deeper.ensures in
     let ec = ap (λ m. c.saturating_sub-deeper.result * m) c.cycle-cycle.ensures in
     record {
-      room = roomy (sealed_lines c.args.sheet.now) w c.repeat.new.cells _ _ (ap length c.lines-lines.ensures.are) (omega (arith, e.room, c.loop-k.auto.cells, c.repeat.auto.cells)) (omega (arith, turn.within, ec));
-      below = omega (arith, c.loop-k-test.true);
+      column = record { room = roomy (sealed_lines c.args.sheet.now) w c.repeat.new.cells _ _ (ap length c.lines-lines.ensures.are) (omega (arith, e.room, c.loop-k.auto.cells, c.repeat.auto.cells)) (omega (arith, turn.within, ec)); inside = omega (arith, c.loop-k-test.true) };
       lower = c.lines-lines.ensures.sheet c.loop-k.k c.loop-k-test.true;
       named = subst (λ ls. Named w.signals (line ls c.loop-k.k)) (sym c.lines-lines.ensures.are) (e.has_signals c.loop-k.k turn.below);
     }

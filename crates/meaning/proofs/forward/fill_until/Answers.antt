@@ -8,12 +8,12 @@ use Rattle.meaning.proofs.forward.fill_until.Goals as goal
 pub carry-held-requires : goal.carry-held-requires
 carry-held-requires g c =
     record {
-      left = omega (arith, c.requires.0 (c.loop-t.t - 1) c.args.left (omega arith) (omega arith));
-      right = omega (arith, c.requires.0 (c.loop-t.t - 1) c.args.right (omega arith) (omega arith));
+      left = omega (arith, c.requires.column.room (c.loop-t.t - 1) c.args.left (omega arith) (omega arith));
+      right = omega (arith, c.requires.column.room (c.loop-t.t - 1) c.args.right (omega arith) (omega arith));
     }
 
 pub put-requires : goal.put-requires
-put-requires g c = omega (arith, c.requires.0 (c.loop-t.t - 1) c.args.line (omega arith) (omega arith))
+put-requires g c = omega (arith, c.requires.column.room (c.loop-t.t - 1) c.args.line (omega arith) (omega arith))
 
 pub loop-t-init : goal.loop-t-init
 loop-t-init g c = (
@@ -31,7 +31,7 @@ loop-t-preserved g c =
     ∙ ap₂ K.kind.Or (read_column (omega arith) c.loop-t.invariant.0 c.args.right (c.loop-t.t - 1) (omega arith) d)
     (ap₂ K.kind.And (read_column (omega arith) c.loop-t.invariant.0 c.args.left (c.loop-t.t - 1) (omega arith) d) (c.loop-t.invariant.1 d))
     ∙ pass_down K.kind (left d) (right d) c.args.grid.samples c.loop-t.t (K.means c.sweep-held.result) (omega arith) (omega arith) in
-    (filled_down (omega arith) (omega arith) (omega arith) (omega (arith, c.requires.0 (c.loop-t.t - 1) c.args.line (omega arith) (omega arith))) c.loop-t.invariant.0 c.put.ensures value, value)
+    (filled_down (omega arith) (omega arith) (omega arith) (omega (arith, c.requires.column.room (c.loop-t.t - 1) c.args.line (omega arith) (omega arith))) c.loop-t.invariant.0 c.put.ensures value, value)
 
 pub returns : goal.returns
 returns g c =

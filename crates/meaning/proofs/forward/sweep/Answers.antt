@@ -7,8 +7,8 @@ use Rattle.meaning.proofs.forward.sweep.Goals as goal
 pub carry-held-requires : goal.carry-held-requires
 carry-held-requires g c =
     record {
-      left = omega (arith, c.requires.0 (c.loop-t.t - 1) c.args.left (omega arith) (omega arith));
-      right = omega (arith, c.requires.0 (c.loop-t.t - 1) c.args.right (omega arith) (omega arith));
+      left = omega (arith, c.requires.room (c.loop-t.t - 1) c.args.left (omega arith) (omega arith));
+      right = omega (arith, c.requires.room (c.loop-t.t - 1) c.args.right (omega arith) (omega arith));
     }
 
 pub loop-t-init : goal.loop-t-init
