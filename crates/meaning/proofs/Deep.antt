@@ -12,19 +12,16 @@ use Rattle.meaning.specs.Cells.{Room, column, Fills, Repeated}
 use Rattle.meaning.specs.Columns.{written}
 use Rattle.meaning.specs.Depths.{under, deep}
 use Rattle.meaning.specs.Sheet.{Values, Valuation, Periodic}
-use Rattle.meaning.specs.Verdict.{steady, horizon}
-use Rattle.meaning.specs.declared.cells.Grid.{Grid}
+use Rattle.meaning.specs.Verdict.{horizon}
 use Rattle.meaning.proofs.Counting.{past_bit}
 use Rattle.meaning.proofs.Filling.{others_kept, room, same_sample}
 use Rattle.meaning.proofs.Passes.{future}
 use Rattle.meaning.proofs.Period.{over_under, row_over}
 use Rattle.meaning.proofs.Rows.{Columns, written_cong, written_is, past_most}
 
--- the grid reaches a cycle past the samples that lines of depth n want
-pub record Reach {V : Type 0} (lines : List Line) (w : Word V) (grid : Grid) (n : ℕ) : Type 0 where
-  pub width : grid.width ≡ length lines
-  pub steady : grid.steady ≡ w.stem + n * w.cycle
-  pub samples : grid.samples ≡ grid.steady + w.cycle
+-- so many samples reach a cycle past those that lines of depth n want
+abbrev pub Reach : {V : Type 0} → Word V → ℕ → ℕ → Type 0
+Reach w samples n = samples ≡ w.stem + n * w.cycle + w.cycle
 
 -- the depths of the lines below k: none is above n, at least n of the lines look back, and each line repeats from so
 -- many cycles after the stem on
@@ -151,20 +148,14 @@ module _ (K : Kind) {V : Type 0} (means : V → K.Value) (lines : List Line) (w 
             ∙ sym (rep f val a ha (t - w.cycle) (omega arith)) ∙ ap (f a) e
       ]
 
--- a grid that reaches n levels has room for more
-pub reach_more : {V : Type 0} {lines : List Line} {w : Word V} {grid : Grid} {n : ℕ} (m : ℕ) → Reach lines w grid n → n + m ≤ pasts (line lines) (length lines)
-    → grid.samples + m * w.cycle ≤ horizon lines w
-reach_more {lines = lines} {w = w} {n = n} m r h =
-    omega (arith, r.samples, r.steady, add-mul n m w.cycle, mul-le (n + m) w.cycle (pasts (line lines) (length lines)) w.cycle h (omega arith))
+-- samples that reach n levels may be followed by more
+pub reach_more : {V : Type 0} (lines : List Line) (w : Word V) (samples n m : ℕ) → Reach w samples n → n + m ≤ pasts (line lines) (length lines)
+    → samples + m * w.cycle ≤ horizon lines w
+reach_more lines w samples n m r h =
+    omega (arith, add-mul n m w.cycle, mul-le (n + m) w.cycle (pasts (line lines) (length lines)) w.cycle h (omega arith))
 
-pub reach_longer : {V : Type 0} {lines : List Line} {w : Word V} {grid longer : Grid} {n : ℕ} (m count : ℕ) → Reach lines w grid n → count ≡ m * w.cycle
-    → (longer.width ≡ grid.width) × (longer.samples ≡ grid.samples + count) × (longer.steady ≡ grid.steady + count) → Reach lines w longer (n + m)
-reach_longer {w = w} {n = n} m count r e is =
-    record {
-      width = is.0 ∙ r.width;
-      steady = omega (arith, is.2, r.steady, add-mul n m w.cycle);
-      samples = omega (arith, is.1, is.2, r.samples);
-    }
+pub reach_longer : {V : Type 0} (w : Word V) (samples n m : ℕ) → Reach w samples n → Reach w (samples + m * w.cycle) (n + m)
+reach_longer w samples n m r = omega (arith, add-mul n m w.cycle)
 
 -- cells behind the table stay
 pub further_longer : {V : Type 0} {width m v lo hi most : ℕ} {cells after : List V} → m ≤ width → hi ≤ most → Repeated width m v lo hi cells after
@@ -173,29 +164,29 @@ further_longer {width = width} {hi = hi} {most = most} hm hh copied i h d =
     copied.others d i (λ t a h₁ h₂ ha e. omega (arith, mul-add-lt t width a hi h₂ (omega arith), mul-le width hi width most (omega arith) hh))
 
 -- all samples of a table that reaches no further than the cells
-pub roomy : {V : Type 0} {lines : List Line} {w : Word V} {grid : Grid} {n : ℕ} (cells : List V) (m : ℕ) → Reach lines w grid n
-    → length lines * horizon lines w ≤ length cells → m ≤ horizon lines w → Room cells grid.width m
-roomy {lines = lines} {w = w} cells m r h le =
-    subst (λ x. Room cells x m) (sym r.width)
+pub roomy : {V : Type 0} (lines : List Line) (w : Word V) (cells : List V) (width m : ℕ) → width ≡ length lines
+    → length lines * horizon lines w ≤ length cells → m ≤ horizon lines w → Room cells width m
+roomy lines w cells width m same h le =
+    subst (λ x. Room cells x m) (sym same)
     (room cells (length lines) m (omega (arith, mul-le (length lines) m (length lines) (horizon lines w) (omega arith) le)))
 
--- a grid that does not reach the end has a level to go
-pub level_more : {V : Type 0} {lines : List Line} {w : Word V} {grid : Grid} {n : ℕ} → Reach lines w grid n → grid.steady < steady lines w
+-- samples that do not reach the end have a level to go
+pub level_more : {V : Type 0} (lines : List Line) (w : Word V) (samples n : ℕ) → Reach w samples n → samples < horizon lines w
     → n + 1 ≤ pasts (line lines) (length lines)
-level_more {lines = lines} {w = w} {n = n} r h =
+level_more lines w samples n r h =
     elim (dec_lt n (pasts (line lines) (length lines))) [
       | yes a ↦ omega arith
-      | no b ↦ absurd (omega (arith, r.steady, mul-le (pasts (line lines) (length lines)) w.cycle n w.cycle (omega arith) (omega arith)))
+      | no b ↦ absurd (omega (arith, mul-le (pasts (line lines) (length lines)) w.cycle n w.cycle (omega arith) (omega arith)))
     ]
 
--- and one that does not lie behind it reaches all samples
-pub reach_all : {V : Type 0} {lines : List Line} {w : Word V} {grid : Grid} {n : ℕ} → Reach lines w grid n → n ≤ pasts (line lines) (length lines)
-    → steady lines w ≤ grid.steady → grid.samples ≡ horizon lines w
-reach_all {lines = lines} {w = w} {n = n} r few h =
-    omega (arith, r.samples, r.steady, mul-le n w.cycle (pasts (line lines) (length lines)) w.cycle few (omega arith))
+-- and those that do not lie before it are all samples
+pub reach_all : {V : Type 0} (lines : List Line) (w : Word V) (samples n : ℕ) → Reach w samples n → n ≤ pasts (line lines) (length lines)
+    → horizon lines w ≤ samples → samples ≡ horizon lines w
+reach_all lines w samples n r few h =
+    omega (arith, mul-le n w.cycle (pasts (line lines) (length lines)) w.cycle few (omega arith))
 
 -- what a turn of the evaluator's loop may count on: line k, its depth, and how much deeper it is than those below
-pub record Turn {V : Type 0} (lines : List Line) (w : Word V) (grid : Grid) (depths : List ℕ) (n k depth more : ℕ) : Type 0 where
+pub record Turn {V : Type 0} (lines : List Line) (w : Word V) (depths : List ℕ) (samples n k depth more : ℕ) : Type 0 where
   pub sheet : Sheet lines
   pub below : k < length lines
   pub small_line : k < 64
@@ -203,14 +194,15 @@ pub record Turn {V : Type 0} (lines : List Line) (w : Word V) (grid : Grid) (dep
   pub small : depth ≤ 64
   pub few : n + more ≤ 64
   pub turn : more * w.cycle ≤ w.cycle
-  pub within : grid.samples + more * w.cycle ≤ horizon lines w
+  pub within : samples + more * w.cycle ≤ horizon lines w
+  pub reach : Reach w (samples + more * w.cycle) (n + more)
 
 -- read are the lines as the loop reads them
 pub turn_is : (K : Kind) {V : Type 0} (means : V → K.Value) {lines read : List Line} (w : Word V) → read ≡ lines → Sheet read → length read ≤ 64 → HasSignals lines w.signals
-    → {grid : Grid} {depths : List ℕ} {n k : ℕ} → k < length read → Reach lines w grid n → Deep K means lines w depths n k
+    → {depths : List ℕ} {samples n k : ℕ} → k < length read → Reach w samples n → Deep K means lines w depths n k
     → {under_it bit more : ℕ} {back : Bool} → under_it ≡ under (λ a. get_or depths a 0) (line read k) → back ≡ eqb (past (line read k)) 1 → bit ≡ from_bool back
-    → more ≡ under_it + bit - n → Turn lines w grid depths n k (under_it + bit) more
-turn_is K means {lines} {read} w are sheet short named {grid} {depths} {n} {k} below reach deeps {under_it} {bit} {more} {back} eu eb ei em =
+    → more ≡ under_it + bit - n → Turn lines w depths samples n k (under_it + bit) more
+turn_is K means {lines} {read} w are sheet short named {depths} {samples} {n} {k} below reach deeps {under_it} {bit} {more} {back} eu eb ei em =
     let same : Sheet lines = subst Sheet are sheet in
     let few_lines : length lines ≤ 64 = subst (λ ls. length ls ≤ 64) are short in
     let here : k < length lines = subst (λ ls. k < length ls) are below in
@@ -226,5 +218,6 @@ turn_is K means {lines} {read} w are sheet short named {grid} {depths} {n} {k} b
       small = omega (arith, own_most K means lines w same named depths n k here (omega arith) deeps, past_most (line lines k), deeps.few, pasts_count (line lines) k);
       few = omega (arith, pasts_count (line lines) (k + 1));
       turn = omega (arith, mul-le more w.cycle 1 w.cycle one (omega arith));
-      within = reach_more more reach (omega (arith, pasts_mono (line lines) (k + 1) (length lines) (omega arith)));
+      reach = reach_longer w samples n more reach;
+      within = reach_more lines w samples n more reach (omega (arith, pasts_mono (line lines) (k + 1) (length lines) (omega arith)));
     }

@@ -5,6 +5,11 @@ use Rattle.std.specs.Prelude.{◌≡◌, ℕ, ◌+◌, ◌-◌, ◌*◌, ◌<◌
 abbrev pub Room : {V : Type 0} → List V → ℕ → ℕ → Type 0
 Room cells width n = (t k : ℕ) → t < n → k < width → t * width + k < length cells
 
+-- there is a cell for each line below width at each sample below n, and k is one of the lines
+pub record HasColumn {V : Type 0} (width n k : ℕ) (cells : List V) : Type 0 where
+  pub room : Room cells width n
+  pub inside : k < width
+
 module _ {V M : Type 0} (means : V → M) where
   -- what line k means at each sample; d stands for the cells that are not there
   abbrev pub column : List V → ℕ → ℕ → V → ℕ → M

@@ -1,6 +1,6 @@
 // Lines that look back: filled upward.
-ghost use Rattle.std.specs.Prelude.{◌≡◌, suc, ◌<◌, ◌≤◌, length};
-ghost use Rattle.meaning.specs.Cells.{Room, column, Fills};
+ghost use Rattle.std.specs.Prelude.{◌≡◌, suc, ◌<◌};
+ghost use Rattle.meaning.specs.Cells.{column, Fills, HasColumn};
 ghost use Rattle.meaning.specs.Columns.{carried};
 ghost use Rattle.meaning.specs.Sheet.{before};
 
@@ -14,7 +14,8 @@ pub(crate) fn fill_previous<T: Truth>(
     left: usize,
     start: T,
 )
-    requires { (Room cells.old grid.width grid.samples) × ((line < grid.width) × (left < line)) }
+    requires column { HasColumn grid.width grid.samples line cells.old }
+    requires left { left < line }
     ensures { Fills T.means grid.width line cells.old (λ d t. before T.kind (T.means start) (column T.means cells.old grid.width left d) t) 0 grid.samples cells.new }
 {
     let mut held = start;
@@ -32,7 +33,9 @@ pub(crate) fn fill_since<T: Truth>(
     right: usize,
     start: T,
 )
-    requires { (Room cells.old grid.width grid.samples) × ((line < grid.width) × ((left < line) × (right < line))) }
+    requires column { HasColumn grid.width grid.samples line cells.old }
+    requires left { left < line }
+    requires right { right < line }
     ensures { Fills T.means grid.width line cells.old (λ d t. carried T.kind (column T.means cells.old grid.width left d) (column T.means cells.old grid.width right d) (T.means start) (suc t)) 0 grid.samples cells.new }
 {
     let mut held = start;

@@ -1,17 +1,21 @@
 // The cells as a table with a row for each sample and a column for each line.
-ghost use Rattle.std.specs.Prelude.{◌≡◌, ◌+◌, ◌*◌, ◌^◌, ◌<◌, length, slice_index_or, slice_set};
+ghost use Rattle.std.specs.Prelude.{◌≡◌, ◌+◌, ◌-◌, ◌*◌, ◌<◌, ◌≤◌, length, slice_index_or, slice_set};
 ghost use Rattle.meaning.specs.Cells.{column, IsRow};
 ghost use Rattle.meaning.specs.Columns.{following as next_sample};
 
 use recording::truth::Truth;
 
-/// How the cells are laid out: the lines in a row, the samples, and the sample that comes after the last. The cells stand
-/// beside it: a struct that held the borrowed slice would have to say in each contract that it holds the same one still.
+/// How the cells are laid out: the lines in a row, the samples, and how many of them are the cycle that comes again after
+/// the last. The cells stand beside it: a struct that held the borrowed slice would have to say in each contract that it
+/// holds the same one still.
 #[derive(Clone, Copy)]
 pub(crate) struct Grid {
     pub(crate) width: usize,
     pub(crate) samples: usize,
-    pub(crate) steady: usize,
+    pub(crate) cycle: usize,
+    ghost some: { 1 ≤ cycle },
+    ghost whole: { cycle ≤ samples },
+    ghost few: { samples ≤ 4352 },
 }
 
 impl Grid {
@@ -59,24 +63,12 @@ impl Grid {
     // The sample that comes after a sample.
     pub(crate) fn following(self, sample: usize) -> usize
         requires { sample < self.samples }
-        ensures { result ≡ next_sample self.steady self.samples sample }
+        ensures { result ≡ next_sample (self.samples - self.cycle) self.samples sample }
     {
         if sample + 1 < self.samples {
             sample + 1
         } else {
-            self.steady
-        }
-    }
-
-    // With so many more samples behind the last.
-    pub(crate) fn longer(self, count: usize) -> Grid
-        requires { (self.samples + count < 2 ^ 64) × (self.steady + count < 2 ^ 64) }
-        ensures { (result.width ≡ self.width) × (result.samples ≡ self.samples + count) × (result.steady ≡ self.steady + count) }
-    {
-        Grid {
-            width: self.width,
-            samples: self.samples + count,
-            steady: self.steady + count,
+            self.samples - self.cycle
         }
     }
 }

@@ -4,7 +4,7 @@ ghost use Rattle.meaning.specs.Sheet.{constant, rule_of};
 ghost use Rattle.recording.specs.Word.{meant};
 ghost use Rattle.sheet.specs.Sheets.{sealed_lines};
 ghost use Rattle.sheet.specs.Table.{Lower, Named};
-ghost use Rattle.meaning.specs.Cells.{Room, column, Fills};
+ghost use Rattle.meaning.specs.Cells.{column, Fills, HasColumn};
 ghost use Rattle.meaning.specs.Columns.{written};
 ghost use Rattle.meaning.specs.Verdict.{Verdict};
 
@@ -37,13 +37,10 @@ fn fill_line<R: Recording>(
     one: Line,
     recording: &R,
 )
-    requires room { Room cells.old grid.width grid.samples }
-    requires below { number < grid.width }
-    requires few { grid.samples ≤ 4352 }
-    requires turns { grid.steady < grid.samples }
+    requires column { HasColumn grid.width grid.samples number cells.old }
     requires lower { Lower number one }
     requires named { Named (R.Recording.word recording.now).signals one }
-    ensures { Fills R.Truth.Truth.means grid.width number cells.old (λ d t. written R.Truth.Truth.kind (meant R.Truth.Truth.means (R.Recording.word recording.now)) grid.steady grid.samples one (λ a. column R.Truth.Truth.means cells.old grid.width a d) t) 0 grid.samples cells.new }
+    ensures { Fills R.Truth.Truth.means grid.width number cells.old (λ d t. written R.Truth.Truth.kind (meant R.Truth.Truth.means (R.Recording.word recording.now)) (grid.samples - grid.cycle) grid.samples one (λ a. column R.Truth.Truth.means cells.old grid.width a d) t) 0 grid.samples cells.new }
 {
     let no = R::Truth::no();
     let yes = R::Truth::yes();
@@ -82,28 +79,53 @@ pub fn judge<R: Recording>(
 {
     let extent = extent_of(sheet, recording, cells.len())?;
     let lines = sheet.lines();
+    let width = lines.len();
     let cycle = recording.cycle() as usize;
-    let mut grid = Grid {
-        width: lines.len(),
-        samples: recording.stem() as usize + cycle,
-        steady: recording.stem() as usize,
-    };
+    let mut samples = recording.stem() as usize + cycle;
     let mut depths = [0; 64];
     let mut deepest = 0;
     for (k, line) in lines.iter().enumerate() {
         let depth = depth_under(*line, &depths) + usize::from(looks_back(*line));
-        // lower lines repeat from grid.steady on, and a line that is deeper than all of them a cycle later
+        // lower lines repeat from the last cycle on, and a line that is deeper than all of them a cycle later
         let deeper = depth.saturating_sub(deepest);
         let count = deeper * cycle;
-        repeat(cells, grid, k, cycle, count);
-        grid = grid.longer(count);
+        repeat(
+            cells,
+            Grid {
+                width,
+                samples,
+                cycle,
+            },
+            k,
+            count,
+        );
+        samples += count;
         depths[k] = depth;
         deepest += deeper;
-        fill_line(cells, grid, k, *line, recording);
+        fill_line(
+            cells,
+            Grid {
+                width,
+                samples,
+                cycle,
+            },
+            k,
+            *line,
+            recording,
+        );
     }
-    while grid.steady < extent.steady {
-        repeat(cells, grid, grid.width, cycle, cycle);
-        grid = grid.longer(cycle);
+    while samples < extent.samples {
+        repeat(
+            cells,
+            Grid {
+                width,
+                samples,
+                cycle,
+            },
+            width,
+            cycle,
+        );
+        samples += cycle;
     }
-    Ok(grid.read(cells, grid.width - 1, 0))
+    Ok(cells[width - 1])
 }

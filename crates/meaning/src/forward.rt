@@ -1,6 +1,6 @@
-// Lines that look ahead for ever: filled downward, where after the last sample comes the steady one.
-ghost use Rattle.std.specs.Prelude.{◌≡◌, ◌-◌, ◌<◌, ◌≤◌, length};
-ghost use Rattle.meaning.specs.Cells.{Room, column, Fills};
+// Lines that look ahead for ever: filled downward, where after the last sample the cycle comes again.
+ghost use Rattle.std.specs.Prelude.{◌≡◌, ◌-◌, ◌<◌};
+ghost use Rattle.meaning.specs.Cells.{Room, column, Fills, HasColumn};
 ghost use Rattle.meaning.specs.Columns.{passes};
 ghost use Rattle.meaning.specs.Judging.{pass};
 
@@ -9,11 +9,13 @@ use recording::truth::Truth;
 
 // One pass down the last cycle, from `start` behind it.
 fn sweep<T: Truth>(cells: &[T], grid: Grid, left: usize, right: usize, start: T) -> T
-    requires { (Room cells.now grid.width grid.samples) × ((left < grid.width) × ((right < grid.width) × (grid.steady < grid.samples))) }
-    ensures { (d : T) → T.means result ≡ pass T.kind (column T.means cells.now grid.width left d) (column T.means cells.now grid.width right d) grid.steady (grid.samples - grid.steady) (T.means start) }
+    requires room { Room cells.now grid.width grid.samples }
+    requires left { left < grid.width }
+    requires right { right < grid.width }
+    ensures { (d : T) → T.means result ≡ pass T.kind (column T.means cells.now grid.width left d) (column T.means cells.now grid.width right d) (grid.samples - grid.cycle) grid.cycle (T.means start) }
 {
     let mut held = start;
-    for t in (grid.steady..grid.samples).rev() {
+    for t in (grid.samples - grid.cycle..grid.samples).rev() {
         held = grid.carry(cells, left, right, t, held);
     }
     held
@@ -28,8 +30,10 @@ pub(crate) fn fill_until<T: Truth>(
     right: usize,
     start: T,
 )
-    requires { (Room cells.old grid.width grid.samples) × ((line < grid.width) × ((left < line) × ((right < line) × (grid.steady < grid.samples)))) }
-    ensures { Fills T.means grid.width line cells.old (λ d t. passes T.kind (column T.means cells.old grid.width left d) (column T.means cells.old grid.width right d) grid.steady grid.samples (T.means start) t) 0 grid.samples cells.new }
+    requires column { HasColumn grid.width grid.samples line cells.old }
+    requires left { left < line }
+    requires right { right < line }
+    ensures { Fills T.means grid.width line cells.old (λ d t. passes T.kind (column T.means cells.old grid.width left d) (column T.means cells.old grid.width right d) (grid.samples - grid.cycle) grid.samples (T.means start) t) 0 grid.samples cells.new }
 {
     let mut held = sweep(cells, grid, left, right, start);
     for t in (0..grid.samples).rev() {

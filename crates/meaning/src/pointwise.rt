@@ -1,6 +1,6 @@
 // Lines whose value at a sample is told by lower lines, there or at the sample after.
-ghost use Rattle.std.specs.Prelude.{◌≡◌, ℕ, ◌<◌, ◌≤◌, length};
-ghost use Rattle.meaning.specs.Cells.{Room, column, Fills, IsRow};
+ghost use Rattle.std.specs.Prelude.{◌≡◌, ℕ, ◌-◌, ◌<◌, ◌≤◌, length};
+ghost use Rattle.meaning.specs.Cells.{column, Fills, HasColumn, IsRow};
 ghost use Rattle.meaning.specs.Columns.{following as next_sample};
 
 use crate::cells::Grid;
@@ -14,8 +14,7 @@ pub(crate) fn fill<T: Truth, F: Fn(&[T], usize) -> T>(
     line: usize,
     value: F,
 )
-    requires room { Room cells.old grid.width grid.samples }
-    requires inside { line < grid.width }
+    requires column { HasColumn grid.width grid.samples line cells.old }
     requires callable { (row : _) (t : ℕ) → length row.now ≡ line → t < grid.samples → F.pre value row t }
     ensures { (y : T → ℕ → T.kind.Value) → ((d : T) (row : _) (t : ℕ) (r : T) → IsRow grid.width line t cells.old row.now → t < grid.samples → F.post value row t r → T.means r ≡ y d t)
         → Fills T.means grid.width line cells.old y 0 grid.samples cells.new }
@@ -27,8 +26,9 @@ pub(crate) fn fill<T: Truth, F: Fn(&[T], usize) -> T>(
 }
 
 pub(crate) fn fill_next<T: Truth>(cells: &mut [T], grid: Grid, line: usize, left: usize)
-    requires { (Room cells.old grid.width grid.samples) × ((line < grid.width) × ((left < line) × (grid.steady < grid.samples))) }
-    ensures { Fills T.means grid.width line cells.old (λ d t. column T.means cells.old grid.width left d (next_sample grid.steady grid.samples t)) 0 grid.samples cells.new }
+    requires column { HasColumn grid.width grid.samples line cells.old }
+    requires left { left < line }
+    ensures { Fills T.means grid.width line cells.old (λ d t. column T.means cells.old grid.width left d (next_sample (grid.samples - grid.cycle) grid.samples t)) 0 grid.samples cells.new }
 {
     for t in 0..grid.samples {
         let value = grid.read(cells, left, grid.following(t));

@@ -8,12 +8,12 @@ use Rattle.meaning.proofs.backward.fill_since.Goals as goal
 pub carry-value-requires : goal.carry-value-requires
 carry-value-requires g c =
     record {
-      left = omega (arith, c.requires.0 c.loop-t.t c.args.left (omega arith) (omega arith));
-      right = omega (arith, c.requires.0 c.loop-t.t c.args.right (omega arith) (omega arith));
+      left = omega (arith, c.requires.column.room c.loop-t.t c.args.left (omega arith) (omega arith));
+      right = omega (arith, c.requires.column.room c.loop-t.t c.args.right (omega arith) (omega arith));
     }
 
 pub put-requires : goal.put-requires
-put-requires g c = omega (arith, c.requires.0 c.loop-t.t c.args.line (omega arith) (omega arith))
+put-requires g c = omega (arith, c.requires.column.room c.loop-t.t c.args.line (omega arith) (omega arith))
 
 pub loop-t-preserved : goal.loop-t-preserved
 loop-t-preserved g c =
@@ -24,7 +24,7 @@ loop-t-preserved g c =
     λ d. c.carry-value.ensures d
     ∙ ap₂ K.kind.Or (read_column (omega arith) c.loop-t.invariant.0 c.args.right c.loop-t.t (omega arith) d)
     (ap₂ K.kind.And (read_column (omega arith) c.loop-t.invariant.0 c.args.left c.loop-t.t (omega arith) d) (c.loop-t.invariant.1 d)) in (
-      filled_more (omega arith) (omega arith) (omega (arith, c.requires.0 c.loop-t.t c.args.line (omega arith) (omega arith))) c.loop-t.invariant.0 c.put.ensures value,
+      filled_more (omega arith) (omega arith) (omega (arith, c.requires.column.room c.loop-t.t c.args.line (omega arith) (omega arith))) c.loop-t.invariant.0 c.put.ensures value,
       λ d. value d ∙ carried_next K.kind (left d) (right d) (K.means c.args.start) c.loop-t.t,
     )
 

@@ -1,4 +1,4 @@
-use Rattle.std.proofs.Common.{◌≡◌, ℕ, ◌+◌, ◌-◌, ◌*◌, ◌<◌, ◌≤◌, length, set, sym, refl, ap, ◌∙◌, subst, arith}
+use Rattle.std.proofs.Common.{◌≡◌, ℕ, ◌+◌, ◌-◌, ◌*◌, ◌<◌, ◌≤◌, length, get_or, set, sym, refl, ap, ◌∙◌, subst, arith}
 use mathlib.Core.Path.{transport}
 use Rattle.std.proofs.lemmas.Nat.{mul-le}
 use Rattle.recording.specs.Word.{meant}
@@ -28,28 +28,37 @@ overflow_mul-count g c =
     let turn = turn_is g.R.Truth.Truth.kind g.R.Truth.Truth.means w c.lines-lines.ensures.are c.lines-lines.ensures.sheet c.lines-lines.ensures.few e.has_signals c.loop-k-test.true c.loop-k.invariant.2 c.loop-k.invariant.3 c.depth_under.ensures c.looks_back.ensures c.from.ensures c.saturating_sub-deeper.ensures in
     omega (arith, turn.turn, ap (λ m. c.saturating_sub-deeper.result * m) c.cycle-cycle.ensures, w.sizes.4)
 
+pub invariant_of-repeat : goal.invariant_of-repeat
+invariant_of-repeat g c =
+    let w = g.R.Recording.word c.args.recording.now in
+    let e = c.in_ok-extent.ensures in
+    let turn = turn_is g.R.Truth.Truth.kind g.R.Truth.Truth.means w c.lines-lines.ensures.are c.lines-lines.ensures.sheet c.lines-lines.ensures.few e.has_signals c.loop-k-test.true c.loop-k.invariant.2 c.loop-k.invariant.3 c.depth_under.ensures c.looks_back.ensures c.from.ensures c.saturating_sub-deeper.ensures in
+    let ec = ap (λ m. c.saturating_sub-deeper.result * m) c.cycle-cycle.ensures in
+    record {
+      some = omega (arith, w.sizes.3, c.cycle-cycle.ensures);
+      whole = omega (arith, c.loop-k.invariant.2, c.cycle-cycle.ensures);
+      few = omega (arith, turn.within, e.few, e.samples);
+    }
+
 pub repeat-requires : goal.repeat-requires
 repeat-requires g c =
     let w = g.R.Recording.word c.args.recording.now in
     let e = c.in_ok-extent.ensures in
-    let reach = c.loop-k.invariant.2 in
     let turn = turn_is g.R.Truth.Truth.kind g.R.Truth.Truth.means w c.lines-lines.ensures.are c.lines-lines.ensures.sheet c.lines-lines.ensures.few e.has_signals c.loop-k-test.true c.loop-k.invariant.2 c.loop-k.invariant.3 c.depth_under.ensures c.looks_back.ensures c.from.ensures c.saturating_sub-deeper.ensures in
     let ec = ap (λ m. c.saturating_sub-deeper.result * m) c.cycle-cycle.ensures in
     record {
-      room = roomy c.loop-k.cells _ reach (omega (arith, e.room, c.loop-k.auto.cells)) (omega (arith, turn.within, ec));
-      few = omega (arith, reach.width, turn.below);
-      turn = (omega (arith, w.sizes.3, c.cycle-cycle.ensures), omega (arith, reach.samples, c.cycle-cycle.ensures), omega (arith, turn.turn, ec, c.cycle-cycle.ensures));
-      fits = omega (arith, turn.within, ec, e.few, e.samples);
+      room = roomy (sealed_lines c.args.sheet.now) w c.loop-k.cells _ _ (ap length c.lines-lines.ensures.are) (omega (arith, e.room, c.loop-k.auto.cells)) (omega (arith, turn.within, ec));
+      lines = omega (arith, c.loop-k-test.true);
+      turn = omega (arith, turn.turn, ec, c.cycle-cycle.ensures);
     }
 
-pub longer-grid-requires : goal.longer-grid-requires
-longer-grid-requires g c =
+pub overflow_add-samples-in-loop-k : goal.overflow_add-samples-in-loop-k
+overflow_add-samples-in-loop-k g c =
     let w = g.R.Recording.word c.args.recording.now in
     let e = c.in_ok-extent.ensures in
-    let reach = c.loop-k.invariant.2 in
     let turn = turn_is g.R.Truth.Truth.kind g.R.Truth.Truth.means w c.lines-lines.ensures.are c.lines-lines.ensures.sheet c.lines-lines.ensures.few e.has_signals c.loop-k-test.true c.loop-k.invariant.2 c.loop-k.invariant.3 c.depth_under.ensures c.looks_back.ensures c.from.ensures c.saturating_sub-deeper.ensures in
     let ec = ap (λ m. c.saturating_sub-deeper.result * m) c.cycle-cycle.ensures in
-    (omega (arith, turn.within, ec, e.few, e.samples), omega (arith, turn.within, ec, e.few, e.samples, reach.samples))
+    omega (arith, turn.within, ec, e.few, e.samples)
 
 pub overflow_add-deepest : goal.overflow_add-deepest
 overflow_add-deepest g c =
@@ -58,131 +67,149 @@ overflow_add-deepest g c =
     let turn = turn_is g.R.Truth.Truth.kind g.R.Truth.Truth.means w c.lines-lines.ensures.are c.lines-lines.ensures.sheet c.lines-lines.ensures.few e.has_signals c.loop-k-test.true c.loop-k.invariant.2 c.loop-k.invariant.3 c.depth_under.ensures c.looks_back.ensures c.from.ensures c.saturating_sub-deeper.ensures in
     omega (arith, turn.few)
 
+pub invariant_of-fill_line : goal.invariant_of-fill_line
+invariant_of-fill_line g c =
+    let w = g.R.Recording.word c.args.recording.now in
+    let e = c.in_ok-extent.ensures in
+    let turn = turn_is g.R.Truth.Truth.kind g.R.Truth.Truth.means w c.lines-lines.ensures.are c.lines-lines.ensures.sheet c.lines-lines.ensures.few e.has_signals c.loop-k-test.true c.loop-k.invariant.2 c.loop-k.invariant.3 c.depth_under.ensures c.looks_back.ensures c.from.ensures c.saturating_sub-deeper.ensures in
+    let ec = ap (λ m. c.saturating_sub-deeper.result * m) c.cycle-cycle.ensures in
+    record {
+      some = omega (arith, w.sizes.3, c.cycle-cycle.ensures);
+      whole = omega (arith, c.loop-k.invariant.2, c.cycle-cycle.ensures);
+      few = omega (arith, turn.within, ec, e.few, e.samples);
+    }
+
 pub fill_line-requires : goal.fill_line-requires
 fill_line-requires g c =
     let w = g.R.Recording.word c.args.recording.now in
     let e = c.in_ok-extent.ensures in
-    let reach = c.loop-k.invariant.2 in
     let turn = turn_is g.R.Truth.Truth.kind g.R.Truth.Truth.means w c.lines-lines.ensures.are c.lines-lines.ensures.sheet c.lines-lines.ensures.few e.has_signals c.loop-k-test.true c.loop-k.invariant.2 c.loop-k.invariant.3 c.depth_under.ensures c.looks_back.ensures c.from.ensures c.saturating_sub-deeper.ensures in
     let ec = ap (λ m. c.saturating_sub-deeper.result * m) c.cycle-cycle.ensures in
-    let longer = reach_longer c.saturating_sub-deeper.result _ reach ec c.longer-grid.ensures in
-    let inside : c.longer-grid.result.samples ≤ horizon (sealed_lines c.args.sheet.now) w = omega (arith, turn.within, ec, c.longer-grid.ensures) in
     record {
-      room = roomy c.repeat.new.cells _ longer (omega (arith, e.room, c.loop-k.auto.cells, c.repeat.auto.cells)) inside;
-      below = omega (arith, longer.width, turn.below);
-      few = omega (arith, inside, e.few, e.samples);
-      turns = omega (arith, longer.samples, w.sizes.3);
+      column = record { room = roomy (sealed_lines c.args.sheet.now) w c.repeat.new.cells _ _ (ap length c.lines-lines.ensures.are) (omega (arith, e.room, c.loop-k.auto.cells, c.repeat.auto.cells)) (omega (arith, turn.within, ec)); inside = omega (arith, c.loop-k-test.true) };
       lower = c.lines-lines.ensures.sheet c.loop-k.k c.loop-k-test.true;
       named = subst (λ ls. Named w.signals (line ls c.loop-k.k)) (sym c.lines-lines.ensures.are) (e.has_signals c.loop-k.k turn.below);
     }
 
 pub loop-k-preserved : goal.loop-k-preserved
 loop-k-preserved g c =
-    let lines = sealed_lines c.args.sheet.now in
-    let K = g.R.Truth.Truth.kind in
-    let means = g.R.Truth.Truth.means in
     let w = g.R.Recording.word c.args.recording.now in
     let e = c.in_ok-extent.ensures in
+    let K = g.R.Truth.Truth.kind in
+    let means = g.R.Truth.Truth.means in
+    let lines = sealed_lines c.args.sheet.now in
     let k = c.loop-k.k in
-    let reach = c.loop-k.invariant.2 in
     let more = c.saturating_sub-deeper.result in
+    let now : ℕ = c.loop-k.samples + more * c.cycle-cycle.result in
+    let same : length c.lines-lines.result.now ≡ length lines = ap length c.lines-lines.ensures.are in
     let turn = turn_is g.R.Truth.Truth.kind g.R.Truth.Truth.means w c.lines-lines.ensures.are c.lines-lines.ensures.sheet c.lines-lines.ensures.few e.has_signals c.loop-k-test.true c.loop-k.invariant.2 c.loop-k.invariant.3 c.depth_under.ensures c.looks_back.ensures c.from.ensures c.saturating_sub-deeper.ensures in
     let ec = ap (λ m. more * m) c.cycle-cycle.ensures in
-    let longer = reach_longer more _ reach ec c.longer-grid.ensures in
     let deeps = deep_more K means lines w turn.sheet e.has_signals c.loop-k.depths c.loop-k.deepest k turn.below turn.small_line c.loop-k.invariant.3
     (c.depth_under.result + c.from.result) more (set c.loop-k.depths k (c.depth_under.result + c.from.result)) turn.is c.saturating_sub-deeper.ensures refl in
-    let copied : Repeated (length lines) k w.cycle c.loop-k.grid.samples (c.loop-k.grid.samples + more * c.cycle-cycle.result) c.loop-k.cells c.repeat.new.cells =
-    transport (λ i. Repeated (reach.width i) k (c.cycle-cycle.ensures i) c.loop-k.grid.samples (c.loop-k.grid.samples + more * c.cycle-cycle.result) c.loop-k.cells c.repeat.new.cells) c.repeat.ensures in
-    let cols : Columns K means lines w c.longer-grid.result.samples k c.repeat.new.cells =
-    subst (λ m. Columns K means lines w m k c.repeat.new.cells) (sym c.longer-grid.ensures.1)
-    (columns_longer K means lines w c.loop-k.grid.samples k (more * c.cycle-cycle.result) c.loop-k.cells c.repeat.new.cells
-    (omega (arith, turn.below)) (omega (arith, reach.samples)) (omega (arith, turn.turn, ec))
-    (steady_by K means lines w c.loop-k.depths c.loop-k.deepest k _ c.loop-k.invariant.3 (omega (arith, reach.samples, reach.steady)))
-    copied c.loop-k.invariant.0) in
-    let fills : Fills means (length lines) k c.repeat.new.cells (λ d t. written K (meant means w) c.longer-grid.result.steady c.longer-grid.result.samples (line lines k) (λ a. column means c.repeat.new.cells (length lines) a d) t) 0 c.longer-grid.result.samples c.fill_line.new.cells =
-    transport (λ i. Fills means (longer.width i) k c.repeat.new.cells (λ d t. written K (meant means w) c.longer-grid.result.steady c.longer-grid.result.samples (line (c.lines-lines.ensures.are i) k) (λ a. column means c.repeat.new.cells (longer.width i) a d) t) 0 c.longer-grid.result.samples c.fill_line.new.cells) c.fill_line.ensures in
-    let inside : c.longer-grid.result.samples ≤ c.in_ok-extent.extent.samples = omega (arith, turn.within, ec, c.longer-grid.ensures, e.samples) in (
-      columns_at K means lines w turn.sheet e.has_signals c.longer-grid.result.steady c.longer-grid.result.samples k longer.samples turn.below
-          (steady_by K means lines w _ _ (k + 1) _ deeps longer.steady) c.repeat.new.cells c.fill_line.new.cells fills cols,
+    let copied : Repeated (length lines) k w.cycle c.loop-k.samples now c.loop-k.cells c.repeat.new.cells =
+    transport (λ i. Repeated (same i) k (c.cycle-cycle.ensures i) c.loop-k.samples now c.loop-k.cells c.repeat.new.cells) c.repeat.ensures in
+    let cols : Columns K means lines w now k c.repeat.new.cells =
+    columns_longer K means lines w c.loop-k.samples k (more * c.cycle-cycle.result) c.loop-k.cells c.repeat.new.cells
+    (omega (arith, turn.below)) (omega (arith, c.loop-k.invariant.2)) (omega (arith, turn.turn, ec))
+    (steady_by K means lines w c.loop-k.depths c.loop-k.deepest k _ c.loop-k.invariant.3 (omega (arith, c.loop-k.invariant.2)))
+    copied c.loop-k.invariant.0 in
+    let fills : Fills means (length lines) k c.repeat.new.cells (λ d t. written K (meant means w) (now - w.cycle) now (line lines k) (λ a. column means c.repeat.new.cells (length lines) a d) t) 0 now c.fill_line.new.cells =
+    transport (λ i. Fills means (same i) k c.repeat.new.cells (λ d t. written K (meant means w) (now - c.cycle-cycle.ensures i) now (line (c.lines-lines.ensures.are i) k) (λ a. column means c.repeat.new.cells (same i) a d) t) 0 now c.fill_line.new.cells) c.fill_line.ensures in
+    let inside : now ≤ c.in_ok-extent.extent.samples = omega (arith, turn.within, ec, e.samples) in (
+      columns_at K means lines w turn.sheet e.has_signals (now - w.cycle) now k (omega (arith, turn.reach, ec)) turn.below
+          (steady_by K means lines w _ _ (k + 1) _ deeps (omega (arith, turn.reach, ec))) c.repeat.new.cells c.fill_line.new.cells fills cols,
       λ i h d.
-          further_more turn.below fills i (omega (arith, mul-le (length lines) c.longer-grid.result.samples (length lines) c.in_ok-extent.extent.samples (omega arith) inside)) d
-          ∙ further_longer (omega (arith, turn.below)) (omega (arith, inside, c.longer-grid.ensures)) copied i h d
+          further_more turn.below fills i (omega (arith, mul-le (length lines) now (length lines) c.in_ok-extent.extent.samples (omega arith) inside)) d
+          ∙ further_longer (omega (arith, turn.below)) inside copied i h d
           ∙ c.loop-k.invariant.1 i h d,
-      longer,
+      omega (arith, turn.reach, ec),
       deeps,
     )
 
-pub loop-grid-init : goal.loop-grid-init
-loop-grid-init g c =
+pub loop-samples-init : goal.loop-samples-init
+loop-samples-init g c =
     let lines = sealed_lines c.args.sheet.now in
     let K = g.R.Truth.Truth.kind in
     let means = g.R.Truth.Truth.means in
     let w = g.R.Recording.word c.args.recording.now in
     let ek : c.loop-k.k ≡ length lines = omega (arith, ap length c.lines-lines.ensures.are, c.loop-k-test.false, c.loop-k.auto.k-end) in (
-      subst (λ m. Columns K means lines w c.loop-k.grid.samples m c.loop-k.cells) ek c.loop-k.invariant.0,
+      subst (λ m. Columns K means lines w c.loop-k.samples m c.loop-k.cells) ek c.loop-k.invariant.0,
       λ i h d. refl,
-      subst (λ m. Steady K means lines w c.loop-k.grid.steady m) ek (steady_by K means lines w c.loop-k.depths c.loop-k.deepest c.loop-k.k _ c.loop-k.invariant.3 c.loop-k.invariant.2.steady),
+      subst (λ m. Steady K means lines w (c.loop-k.samples - w.cycle) m) ek (steady_by K means lines w c.loop-k.depths c.loop-k.deepest c.loop-k.k _ c.loop-k.invariant.3 (omega (arith, c.loop-k.invariant.2))),
       (c.loop-k.deepest, c.loop-k.invariant.2, subst (λ m. c.loop-k.deepest ≤ pasts (line lines) m) ek c.loop-k.invariant.3.few),
     )
 
-pub repeat-requires-in-loop-grid : goal.repeat-requires-in-loop-grid
-repeat-requires-in-loop-grid g c =
+pub repeat-requires-in-loop-samples : goal.repeat-requires-in-loop-samples
+repeat-requires-in-loop-samples g c =
     let w = g.R.Recording.word c.args.recording.now in
     let e = c.in_ok-extent.ensures in
-    let reach = c.loop-grid.invariant.3.1 in
-    let within = reach_more 1 reach (level_more reach (omega (arith, c.loop-grid-test.true, e.steady_is))) in
+    let lines = sealed_lines c.args.sheet.now in
+    let n = c.loop-samples.invariant.3.0 in
+    let reach = c.loop-samples.invariant.3.1 in
+    let level = level_more lines w c.loop-samples.samples n reach (omega (arith, c.loop-samples-test.true, e.samples)) in
+    let within = reach_more lines w c.loop-samples.samples n 1 reach level in
     record {
-      room = roomy c.loop-grid.cells _ reach (omega (arith, e.room, c.loop-k.auto.cells, c.loop-grid.auto.cells)) (omega (arith, within, c.cycle-cycle.ensures));
-      few = omega arith;
-      turn = (omega (arith, w.sizes.3, c.cycle-cycle.ensures), omega (arith, reach.samples, c.cycle-cycle.ensures), omega arith);
-      fits = omega (arith, within, c.cycle-cycle.ensures, e.few, e.samples);
+      room = roomy lines w c.loop-samples.cells _ _ (ap length c.lines-lines.ensures.are) (omega (arith, e.room, c.loop-k.auto.cells, c.loop-samples.auto.cells)) (omega (arith, within, c.cycle-cycle.ensures));
+      lines = omega arith;
+      turn = omega arith;
     }
 
-pub loop-grid-preserved : goal.loop-grid-preserved
-loop-grid-preserved g c =
+pub overflow_add-samples-in-loop-samples : goal.overflow_add-samples-in-loop-samples
+overflow_add-samples-in-loop-samples g c =
+    let w = g.R.Recording.word c.args.recording.now in
+    let e = c.in_ok-extent.ensures in
     let lines = sealed_lines c.args.sheet.now in
+    let n = c.loop-samples.invariant.3.0 in
+    let reach = c.loop-samples.invariant.3.1 in
+    let level = level_more lines w c.loop-samples.samples n reach (omega (arith, c.loop-samples-test.true, e.samples)) in
+    let within = reach_more lines w c.loop-samples.samples n 1 reach level in
+    omega (arith, within, c.cycle-cycle.ensures, e.few, e.samples)
+
+pub loop-samples-preserved : goal.loop-samples-preserved
+loop-samples-preserved g c =
     let K = g.R.Truth.Truth.kind in
     let means = g.R.Truth.Truth.means in
     let w = g.R.Recording.word c.args.recording.now in
     let e = c.in_ok-extent.ensures in
-    let n = c.loop-grid.invariant.3.0 in
-    let reach = c.loop-grid.invariant.3.1 in
-    let level = level_more reach (omega (arith, c.loop-grid-test.true, e.steady_is)) in
-    let within = reach_more 1 reach level in
-    let copied : Repeated (length lines) (length lines) w.cycle c.loop-grid.grid.samples (c.loop-grid.grid.samples + c.cycle-cycle.result) c.loop-grid.cells c.repeat-in-loop-grid.new.cells =
-    transport (λ i. Repeated (reach.width i) (reach.width i) (c.cycle-cycle.ensures i) c.loop-grid.grid.samples (c.loop-grid.grid.samples + c.cycle-cycle.result) c.loop-grid.cells c.repeat-in-loop-grid.new.cells) c.repeat-in-loop-grid.ensures in (
-      subst (λ m. Columns K means lines w m (length lines) c.repeat-in-loop-grid.new.cells) (sym c.longer-grid-in-loop-grid.ensures.1)
-          (columns_longer K means lines w c.loop-grid.grid.samples (length lines) c.cycle-cycle.result c.loop-grid.cells c.repeat-in-loop-grid.new.cells
-          (omega arith) (omega (arith, reach.samples)) (omega (arith, c.cycle-cycle.ensures))
-          (λ f val a ha t ht. c.loop-grid.invariant.2 f val a ha t (omega (arith, reach.samples)))
-          copied c.loop-grid.invariant.0),
-      λ i h d. further_longer (omega arith) (omega (arith, within, c.cycle-cycle.ensures, e.samples)) copied i h d ∙ c.loop-grid.invariant.1 i h d,
-      λ f val a ha t ht. c.loop-grid.invariant.2 f val a ha t (omega (arith, c.longer-grid-in-loop-grid.ensures)),
-      (n + 1, reach_longer 1 _ reach (omega (arith, c.cycle-cycle.ensures)) c.longer-grid-in-loop-grid.ensures, level),
+    let lines = sealed_lines c.args.sheet.now in
+    let n = c.loop-samples.invariant.3.0 in
+    let reach = c.loop-samples.invariant.3.1 in
+    let level = level_more lines w c.loop-samples.samples n reach (omega (arith, c.loop-samples-test.true, e.samples)) in
+    let within = reach_more lines w c.loop-samples.samples n 1 reach level in
+    let same : length c.lines-lines.result.now ≡ length lines = ap length c.lines-lines.ensures.are in
+    let now : ℕ = c.loop-samples.samples + c.cycle-cycle.result in
+    let copied : Repeated (length lines) (length lines) w.cycle c.loop-samples.samples now c.loop-samples.cells c.repeat-in-loop-samples.new.cells =
+    transport (λ i. Repeated (same i) (same i) (c.cycle-cycle.ensures i) c.loop-samples.samples now c.loop-samples.cells c.repeat-in-loop-samples.new.cells) c.repeat-in-loop-samples.ensures in (
+      columns_longer K means lines w c.loop-samples.samples (length lines) c.cycle-cycle.result c.loop-samples.cells c.repeat-in-loop-samples.new.cells
+          (omega arith) (omega (arith, reach)) (omega (arith, c.cycle-cycle.ensures)) c.loop-samples.invariant.2 copied c.loop-samples.invariant.0,
+      λ i h d. further_longer (omega arith) (omega (arith, within, c.cycle-cycle.ensures, e.samples)) copied i h d ∙ c.loop-samples.invariant.1 i h d,
+      λ f val a ha t ht. c.loop-samples.invariant.2 f val a ha t (omega (arith, ht)),
+      (n + 1, omega (arith, reach_longer w c.loop-samples.samples n 1 reach, c.cycle-cycle.ensures), level),
     )
 
-pub read-requires : goal.read-requires
-read-requires g c =
+pub bounds-cells-width : goal.bounds-cells-width
+bounds-cells-width g c =
     let w = g.R.Recording.word c.args.recording.now in
     let e = c.in_ok-extent.ensures in
-    let reach = c.loop-grid.invariant.3.1 in
-    roomy c.loop-grid.cells 1 reach (omega (arith, e.room, c.loop-k.auto.cells, c.loop-grid.auto.cells)) (omega (arith, w.sizes.3)) 0 (c.loop-grid.grid.width - 1) (omega arith)
-    (omega (arith, reach.width, ap length c.lines-lines.ensures.are, c.lines-lines.ensures.some))
+    let lines = sealed_lines c.args.sheet.now in
+    let same : length c.lines-lines.result.now ≡ length lines = ap length c.lines-lines.ensures.are in
+    omega (arith, e.room, c.loop-k.auto.cells, c.loop-samples.auto.cells, c.lines-lines.ensures.some, mul-le (length lines) 1 (length lines) (horizon lines w) (omega arith) (omega (arith, w.sizes.3)))
 
 pub returns : goal.returns
 returns g c =
+    let w = g.R.Recording.word c.args.recording.now in
+    let e = c.in_ok-extent.ensures in
     let lines = sealed_lines c.args.sheet.now in
     let K = g.R.Truth.Truth.kind in
     let means = g.R.Truth.Truth.means in
-    let w = g.R.Recording.word c.args.recording.now in
-    let e = c.in_ok-extent.ensures in
+    let same : length c.lines-lines.result.now ≡ length lines = ap length c.lines-lines.ensures.are in
     let sheet : Sheet lines = subst Sheet c.lines-lines.ensures.are c.lines-lines.ensures.sheet in
-    let some : 0 < length lines = omega (arith, ap length c.lines-lines.ensures.are, c.lines-lines.ensures.some) in
+    let some : 0 < length lines = omega (arith, c.lines-lines.ensures.some) in
     let made = exists K (meant means w) lines sheet e.has_signals in
-    let reach = c.loop-grid.invariant.3.1 in
-    let all : c.loop-grid.grid.samples ≡ horizon lines w = reach_all reach c.loop-grid.invariant.3.2 (omega (arith, c.loop-grid-test.false, e.steady_is)) in
-    let cells : (k t : ℕ) → k < length lines → t < horizon lines w → (d : g.row.R-Truth.Denot) → column means c.loop-grid.cells (length lines) k d t ≡ made.0 k t =
-    λ k t hk ht d. c.loop-grid.invariant.0 made.0 made.1 k hk t (omega (arith, all)) d in
+    let all : c.loop-samples.samples ≡ horizon lines w = reach_all lines w c.loop-samples.samples c.loop-samples.invariant.3.0 c.loop-samples.invariant.3.1 c.loop-samples.invariant.3.2 (omega (arith, c.loop-samples-test.false, e.samples)) in
+    let cells : (k t : ℕ) → k < length lines → t < horizon lines w → (d : g.row.R-Truth.Denot) → column means c.loop-samples.cells (length lines) k d t ≡ made.0 k t =
+    λ k t hk ht d. c.loop-samples.invariant.0 made.0 made.1 k hk t (omega (arith, all)) d in
+    let at_start : length c.lines-lines.result.now - 1 ≡ 0 * length lines + (length lines - 1) = omega arith in
     record {
       has_signals = e.has_signals;
       room = e.room;
@@ -193,10 +220,9 @@ returns g c =
       cells = cells;
       further = λ i h d.
           let far : length lines * c.in_ok-extent.extent.samples ≤ i = subst (λ m. length lines * m ≤ i) (sym e.samples) h in
-          c.loop-grid.invariant.1 i far d ∙ c.loop-k.invariant.1 i far d;
-      as_long = omega (arith, c.loop-k.auto.cells, c.loop-grid.auto.cells);
+          c.loop-samples.invariant.1 i far d ∙ c.loop-k.invariant.1 i far d;
+      as_long = omega (arith, c.loop-k.auto.cells, c.loop-samples.auto.cells);
       verdict =
-          ap means (sym (c.read.ensures c.read.result))
-          ∙ ap (λ m. column means c.loop-grid.cells m (m - 1) c.read.result 0) reach.width
-          ∙ cells (length lines - 1) 0 (omega (arith, some)) (omega (arith, w.sizes.3)) c.read.result;
+          ap means (c.index-cells-width.is ∙ ap (λ m. get_or c.loop-samples.cells m c.index-cells-width.result) at_start)
+          ∙ cells (length lines - 1) 0 (omega (arith, some)) (omega (arith, w.sizes.3)) c.index-cells-width.result;
     }

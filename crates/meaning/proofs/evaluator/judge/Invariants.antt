@@ -9,19 +9,19 @@ abbrev pub invariant-loop-k : goal.invariant-loop-k
 invariant-loop-k g l =
     let w = g.R.Recording.word l.recording in
     let lines = sealed_lines l.sheet in
-    Columns g.R.Truth.Truth.kind g.R.Truth.Truth.means lines w l.grid.samples l.k l.cells
+    Columns g.R.Truth.Truth.kind g.R.Truth.Truth.means lines w l.samples l.k l.cells
     × ((i : ℕ) → length lines * l.extent.samples ≤ i → (d : g.row.R-Truth.Denot) → get_or l.cells i d ≡ get_or l.initial.cells i d)
-    × Reach lines w l.grid l.deepest
+    × Reach w l.samples l.deepest
     × Deep g.R.Truth.Truth.kind g.R.Truth.Truth.means lines w l.depths l.deepest l.k
 
-abbrev pub invariant-loop-grid : goal.invariant-loop-grid
-invariant-loop-grid g l =
+abbrev pub invariant-loop-samples : goal.invariant-loop-samples
+invariant-loop-samples g l =
     let w = g.R.Recording.word l.recording in
     let lines = sealed_lines l.sheet in
-    Columns g.R.Truth.Truth.kind g.R.Truth.Truth.means lines w l.grid.samples (length lines) l.cells
+    Columns g.R.Truth.Truth.kind g.R.Truth.Truth.means lines w l.samples (length lines) l.cells
     × ((i : ℕ) → length lines * l.extent.samples ≤ i → (d : g.row.R-Truth.Denot) → get_or l.cells i d ≡ get_or l.initial.cells i d)
-    × Steady g.R.Truth.Truth.kind g.R.Truth.Truth.means lines w l.grid.steady (length lines)
-    × ((n : ℕ) × Reach lines w l.grid n × (n ≤ pasts (line lines) (length lines)))
+    × Steady g.R.Truth.Truth.kind g.R.Truth.Truth.means lines w (l.samples - w.cycle) (length lines)
+    × ((n : ℕ) × Reach w l.samples n × (n ≤ pasts (line lines) (length lines)))
 
-abbrev pub decreases-loop-grid : goal.decreases-loop-grid
-decreases-loop-grid g l = l.extent.steady - l.grid.steady
+abbrev pub decreases-loop-samples : goal.decreases-loop-samples
+decreases-loop-samples g l = l.extent.samples - l.samples

@@ -1,4 +1,4 @@
-use Rattle.std.proofs.Common.{◌≡◌, ◌-◌, ap, ◌∙◌, arith}
+use Rattle.std.proofs.Common.{◌≡◌, ◌-◌, ap, ◌∙◌, ap₂, arith}
 use Rattle.meaning.proofs.Sweeps.{pass_down, pass_none}
 use Rattle.meaning.specs.Cells.{column}
 use Rattle.meaning.specs.Judging.{pass}
@@ -7,8 +7,8 @@ use Rattle.meaning.proofs.forward.sweep.Goals as goal
 pub carry-held-requires : goal.carry-held-requires
 carry-held-requires g c =
     record {
-      left = omega (arith, c.requires.0 (c.loop-t.t - 1) c.args.left (omega arith) (omega arith));
-      right = omega (arith, c.requires.0 (c.loop-t.t - 1) c.args.right (omega arith) (omega arith));
+      left = omega (arith, c.requires.room (c.loop-t.t - 1) c.args.left (omega arith) (omega arith));
+      right = omega (arith, c.requires.room (c.loop-t.t - 1) c.args.right (omega arith) (omega arith));
     }
 
 pub loop-t-init : goal.loop-t-init
@@ -27,5 +27,8 @@ loop-t-preserved g c =
 
 pub returns : goal.returns
 returns g c =
-    let e : c.loop-t.t ≡ c.args.grid.steady = omega arith in
-    λ d. c.loop-t.invariant.1 d ∙ ap (λ s. pass g.T.Truth.kind (column g.T.Truth.means c.args.cells.now c.args.grid.width c.args.left d) (column g.T.Truth.means c.args.cells.now c.args.grid.width c.args.right d) s (c.args.grid.samples - s) (g.T.Truth.means c.args.start)) e
+    let K = g.T.Truth in
+    let e : c.loop-t.t ≡ c.args.grid.samples - c.args.grid.cycle = omega arith in
+    let n : c.args.grid.samples - c.loop-t.t ≡ c.args.grid.cycle = omega arith in
+    λ d. c.loop-t.invariant.1 d
+    ∙ ap₂ (λ s m. pass K.kind (column K.means c.args.cells.now c.args.grid.width c.args.left d) (column K.means c.args.cells.now c.args.grid.width c.args.right d) s m (K.means c.args.start)) e n

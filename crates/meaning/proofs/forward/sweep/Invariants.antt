@@ -6,4 +6,4 @@ use Rattle.meaning.proofs.forward.sweep.Given as goal
 abbrev pub invariant-loop-t : goal.invariant-loop-t
 invariant-loop-t g l =
     let K = g.T.Truth in
-    (l.grid.steady ≤ l.t) × ((d : g.row.T.Denot) → K.means l.held ≡ pass K.kind (column K.means l.cells l.grid.width l.left d) (column K.means l.cells l.grid.width l.right d) l.t (l.grid.samples - l.t) (K.means l.initial.held))
+    (l.grid.samples - l.grid.cycle ≤ l.t) × ((d : g.row.T.Denot) → K.means l.held ≡ pass K.kind (column K.means l.cells l.grid.width l.left d) (column K.means l.cells l.grid.width l.right d) l.t (l.grid.samples - l.t) (K.means l.initial.held))

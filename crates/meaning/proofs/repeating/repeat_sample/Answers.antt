@@ -6,7 +6,7 @@ pub loop-a-init : goal.loop-a-init
 loop-a-init g c = no_lines
 
 pub read-value-requires : goal.read-value-requires
-read-value-requires g c = omega (arith, c.requires.room (c.args.t - c.args.cycle) c.loop-a.a (omega arith) (omega arith))
+read-value-requires g c = omega (arith, c.requires.room (c.args.t - c.args.grid.cycle) c.loop-a.a (omega arith) (omega arith))
 
 pub put-requires : goal.put-requires
 put-requires g c = omega (arith, c.requires.room c.args.t c.loop-a.a (omega arith) (omega arith))

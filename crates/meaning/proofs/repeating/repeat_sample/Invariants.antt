@@ -3,4 +3,4 @@ use Rattle.meaning.specs.Cells.{Repeated}
 use Rattle.meaning.proofs.repeating.repeat_sample.Given as goal
 
 abbrev pub invariant-loop-a : goal.invariant-loop-a
-invariant-loop-a g l = Repeated l.grid.width l.a l.cycle l.t (l.t + 1) l.initial.cells l.cells
+invariant-loop-a g l = Repeated l.grid.width l.a l.grid.cycle l.t (l.t + 1) l.initial.cells l.cells
