@@ -1,5 +1,6 @@
 -- What a line's own gate does, and that it bounds the line's value.
 use Rattle.std.proofs.Common.{◌≡◌, ℕ, zero, suc, ◌+◌, Bool, true, false, not, ◌&&◌, ◌||◌, sym, refl, ap, ◌∙◌, ap₂, inl, inr, add-zero, add-suc, suc-add, add-one, arith}
+use Rattle.std.proofs.Math.Bool.{and-false, or-false}
 use Rattle.std.proofs.lemmas.Bool.{and_parts, and_from, or_cases, or_left, or_right}
 use Rattle.recording.specs.Kind.{AtMost}
 use Rattle.recording.specs.Kinds.{two}
@@ -37,18 +38,9 @@ At minus minus X = X
 
 -- the pair of a line with sign s
 abbrev pub FairLine : Line → Sign → (ℕ → Values two) → Values two → Type 0
-FairLine (Const b) s h y = Unit {0}
-FairLine (Signal i) s h y = Unit {0}
-FairLine (Not a) s h y = Unit {0}
-FairLine (And a b) s h y = Unit {0}
-FairLine (Or a b) s h y = Unit {0}
-FairLine (Next a) s h y = Unit {0}
 FairLine (Until a b) s h y = At plus s (Often y (h b))
 FairLine (WeakUntil a b) s h y = At minus s (Often (h a) y)
-FairLine (Previous a) s h y = Unit {0}
-FairLine (WeakPrevious a) s h y = Unit {0}
-FairLine (Since a b) s h y = Unit {0}
-FairLine (WeakSince a b) s h y = Unit {0}
+FairLine _ s h y = Unit {0}
 
 before_bound : (s : Sign) (start : Bool) (y z : Values two) → ((t : ℕ) → Bound s (y t) (z t)) → (t : ℕ) → Bound s (before two start y t) (before two start z t)
 before_bound s start y z b zero = bound_same s start start refl
@@ -158,16 +150,8 @@ weak_unrolls l r z is t =
     ∙ regroup (r t) (l t) (is (suc t)).until (is (suc t)).always
     ∙ ap (λ p. r t || (l t && p)) (sym (is (suc t)).is_or)
 
-or_false : (a : Bool) → (a || false) ≡ a
-or_false true = refl
-or_false false = refl
-
-and_false : (a : Bool) → (a && false) ≡ false
-and_false true = refl
-and_false false = refl
-
 since_behaves : (l r z : Values two) → ((t : ℕ) → z t ≡ since two l r t) → (t : ℕ) → z t ≡ (r t || (l t && before two false z t))
-since_behaves l r z e zero = e 0 ∙ since_zero two l r ∙ sym (ap (λ b. r 0 || b) (and_false (l 0)) ∙ or_false (r 0))
+since_behaves l r z e zero = e 0 ∙ since_zero two l r ∙ sym (ap (λ b. r 0 || b) (and-false (l 0)) ∙ or-false (r 0))
 since_behaves l r z e (suc t) = e (suc t) ∙ since_carries two l r t ∙ ap (λ b. r (suc t) || (l (suc t) && b)) (sym (e t))
 
 weak_since_behaves : (l r z : Values two) → ((t : ℕ) → z t ≡ (since two l r t || ands two l 0 (suc t))) → (t : ℕ)
@@ -182,17 +166,12 @@ constant_is false = refl
 module _ (word : Word Bool) where
   pub row_behaves : (x : Line) (f : ℕ → Values two) (z : Values two) → ((t : ℕ) → Row two word x f t (z t)) → Behaves word x f z
   row_behaves (Const b) f z row = λ t. row t ∙ constant_is b
-  row_behaves (Signal i) f z row = λ t. row t
-  row_behaves (Not a) f z row = λ t. row t
-  row_behaves (And a b) f z row = λ t. row t
-  row_behaves (Or a b) f z row = λ t. row t
   row_behaves (Next a) f z row = λ t. row t ∙ ap (f a) (add-one t)
   row_behaves (Until a b) f z row = λ t. until_unrolls (f a) (f b) z row t
   row_behaves (WeakUntil a b) f z row = λ t. weak_unrolls (f a) (f b) z row t
-  row_behaves (Previous a) f z row = λ t. row t
-  row_behaves (WeakPrevious a) f z row = λ t. row t
   row_behaves (Since a b) f z row = λ t. since_behaves (f a) (f b) z row t
   row_behaves (WeakSince a b) f z row = λ t. weak_since_behaves (f a) (f b) z row t
+  row_behaves _ f z row = λ t. row t
 
   pub line_bound : (x : Line) (s : Sign) (h f : ℕ → Values two) (y z : Values two) → Behaves word x h y → ((t : ℕ) → Row two word x f t (z t)) → FairLine x s h y
       → Operands x s (λ a s'. (t : ℕ) → Bound s' (h a t) (f a t)) → (t : ℕ) → Bound s (y t) (z t)

@@ -30,11 +30,6 @@ use Rattle.machine.proofs.Signing.{Operands, operands_map, closed, used_of}
 
 -- q shows the values y of a line
 abbrev Shown : Line → Values two → Values two → Type 0
-Shown (Const b) y q = Unit {0}
-Shown (Signal i) y q = Unit {0}
-Shown (Not a) y q = Unit {0}
-Shown (And a b) y q = Unit {0}
-Shown (Or a b) y q = Unit {0}
 Shown (Next a) y q = q ≡ y
 Shown (Until a b) y q = q ≡ y
 Shown (WeakUntil a b) y q = q ≡ y
@@ -42,6 +37,7 @@ Shown (Previous a) y q = q ≡ y
 Shown (WeakPrevious a) y q = q ≡ y
 Shown (Since a b) y q = q ≡ before two false y
 Shown (WeakSince a b) y q = q ≡ before two true y
+Shown _ y q = Unit {0}
 
 shown_by : (x : Line) (y q : Values two) → (memory x ≡ 1 → (t : ℕ) → q t ≡ shown two x y t) → Shown x y q
 shown_by (Const b) y q h = tt
@@ -49,13 +45,7 @@ shown_by (Signal i) y q h = tt
 shown_by (Not a) y q h = tt
 shown_by (And a b) y q h = tt
 shown_by (Or a b) y q h = tt
-shown_by (Next a) y q h = fun_ext (h refl)
-shown_by (Until a b) y q h = fun_ext (h refl)
-shown_by (WeakUntil a b) y q h = fun_ext (h refl)
-shown_by (Previous a) y q h = fun_ext (h refl)
-shown_by (WeakPrevious a) y q h = fun_ext (h refl)
-shown_by (Since a b) y q h = fun_ext (h refl)
-shown_by (WeakSince a b) y q h = fun_ext (h refl)
+shown_by _ y q h = fun_ext (h refl)
 
 -- a bit, with the equation that says which
 bit : (b : Bool) → (b ≡ true) ⊎ (b ≡ false)
@@ -96,48 +86,19 @@ module _ (v S : ℕ) (hv : 1 ≤ v) (l r z : Values two) (pl : Periodic two v S 
 
 -- the bits of a line's gates, f being the lines' values
 vals_of : (ℕ → Values two) → ℕ → Line → List (Values two)
-vals_of f k (Const b) = f k ∷ []
-vals_of f k (Signal i) = f k ∷ []
-vals_of f k (Not a) = f k ∷ []
-vals_of f k (And a b) = f k ∷ []
-vals_of f k (Or a b) = f k ∷ []
-vals_of f k (Next a) = f k ∷ []
-vals_of f k (Until a b) = f k ∷ []
-vals_of f k (WeakUntil a b) = f k ∷ []
-vals_of f k (Previous a) = f k ∷ []
-vals_of f k (WeakPrevious a) = f k ∷ []
 vals_of f k (Since a b) = before two false (f k) ∷ (λ t. f a t && before two false (f k) t) ∷ f k ∷ []
 vals_of f k (WeakSince a b) = before two true (f k) ∷ (λ t. f a t && before two true (f k) t) ∷ f k ∷ []
+vals_of f k _ = f k ∷ []
 
 vals_size : (f : ℕ → Values two) (k : ℕ) (y : Line) → length (vals_of f k y) ≡ size y
 unfolding vals_of
 vals_size f k (Const b) = refl
-vals_size f k (Signal i) = refl
-vals_size f k (Not a) = refl
-vals_size f k (And a b) = refl
-vals_size f k (Or a b) = refl
-vals_size f k (Next a) = refl
-vals_size f k (Until a b) = refl
-vals_size f k (WeakUntil a b) = refl
-vals_size f k (Previous a) = refl
-vals_size f k (WeakPrevious a) = refl
-vals_size f k (Since a b) = refl
-vals_size f k (WeakSince a b) = refl
+vals_size f k _ = refl
 
 vals_last : (f : ℕ → Values two) (k : ℕ) (y : Line) → get_or (vals_of f k y) (size y - 1) (λ _. false) ≡ f k
 unfolding vals_of
 vals_last f k (Const b) = refl
-vals_last f k (Signal i) = refl
-vals_last f k (Not a) = refl
-vals_last f k (And a b) = refl
-vals_last f k (Or a b) = refl
-vals_last f k (Next a) = refl
-vals_last f k (Until a b) = refl
-vals_last f k (WeakUntil a b) = refl
-vals_last f k (Previous a) = refl
-vals_last f k (WeakPrevious a) = refl
-vals_last f k (Since a b) = refl
-vals_last f k (WeakSince a b) = refl
+vals_last f k _ = refl
 
 module _ (x : ℕ → Line) (n r : ℕ) (f : ℕ → Values two) where
   val_lists : ℕ → List (Values two)
@@ -198,27 +159,14 @@ module _ (x : ℕ → Line) (n r : ℕ) (f : ℕ → Values two) where
           → (i : ℕ) → i < size y → (t : ℕ) → get_or (vals_of f k y) i (λ _. false) t ≡ gate_bit word run bits (get_or (gates_of (place x n r) (first x n r k) (name x n r k) y) i (gate.Const false)) t
       unfolding vals_of
       gate_row (Const b) e s ops be sh zero hi t = be t
-      gate_row (Const b) e s ops be sh (suc i) hi t = absurd (omega arith)
       gate_row (Signal j) e s ops be sh zero hi t = be t
-      gate_row (Signal j) e s ops be sh (suc i) hi t = absurd (omega arith)
       gate_row (Not a) e s ops be sh zero hi t = be t ∙ ap (λ l. not (l t)) (sym ops)
-      gate_row (Not a) e s ops be sh (suc i) hi t = absurd (omega arith)
       gate_row (And a b) e s ops be sh zero hi t = be t ∙ ap₂ (λ l r. l t && r t) (sym ops.0) (sym ops.1)
-      gate_row (And a b) e s ops be sh (suc i) hi t = absurd (omega arith)
       gate_row (Or a b) e s ops be sh zero hi t = be t ∙ ap₂ (λ l r. l t || r t) (sym ops.0) (sym ops.1)
-      gate_row (Or a b) e s ops be sh (suc i) hi t = absurd (omega arith)
-      gate_row (Next a) e s ops be sh zero hi t = ap (λ l. l t) (sym sh)
-      gate_row (Next a) e s ops be sh (suc i) hi t = absurd (omega arith)
-      gate_row (Until a b) e s ops be sh zero hi t = ap (λ l. l t) (sym sh)
-      gate_row (Until a b) e s ops be sh (suc i) hi t = absurd (omega arith)
-      gate_row (WeakUntil a b) e s ops be sh zero hi t = ap (λ l. l t) (sym sh)
-      gate_row (WeakUntil a b) e s ops be sh (suc i) hi t = absurd (omega arith)
-      gate_row (Previous a) e s ops be sh zero hi t = ap (λ l. l t) (sym sh)
-      gate_row (Previous a) e s ops be sh (suc i) hi t = absurd (omega arith)
-      gate_row (WeakPrevious a) e s ops be sh zero hi t = ap (λ l. l t) (sym sh)
-      gate_row (WeakPrevious a) e s ops be sh (suc i) hi t = absurd (omega arith)
       gate_row (Since a b) e s ops be sh i hi t = three a b false (Since a b) e refl refl refl ops.0 ops.1 be sh i hi t
       gate_row (WeakSince a b) e s ops be sh i hi t = three a b true (WeakSince a b) e refl refl refl ops.0 ops.1 be sh i hi t
+      gate_row _ e s ops be sh zero hi t = ap (λ l. l t) (sym sh)
+      gate_row _ e s ops be sh (suc i) hi t = absurd (omega arith)
 
       unroll : (a b : ℕ) → (bits (place x n r a) ≡ f a) × (bits (place x n r b) ≡ f b) → Unrolls (f a) (f b) (f k) → run (name x n r k) ≡ f k
           → (t : ℕ) → run (name x n r k) t ≡ (bits (place x n r b) t || (bits (place x n r a) t && run (name x n r k) (suc t)))
@@ -228,11 +176,6 @@ module _ (x : ℕ → Line) (n r : ℕ) (f : ℕ → Values two) where
 
       start_row : (y : Line) → Behaves word y f (f k) → Shown y (f k) (run (name x n r k))
           → memory y ≡ 1 → Starts (get_or (variables_of (place x n r) (place x n r k) y) 0 (variable.Next 0)) (run (name x n r k))
-      start_row (Const b) be sh one = absurd (omega arith)
-      start_row (Signal j) be sh one = absurd (omega arith)
-      start_row (Not a) be sh one = absurd (omega arith)
-      start_row (And a b) be sh one = absurd (omega arith)
-      start_row (Or a b) be sh one = absurd (omega arith)
       start_row (Next a) be sh one = tt
       start_row (Until a b) be sh one = tt
       start_row (WeakUntil a b) be sh one = tt
@@ -240,14 +183,10 @@ module _ (x : ℕ → Line) (n r : ℕ) (f : ℕ → Values two) where
       start_row (WeakPrevious a) be sh one = ap (λ l. l 0) sh ∙ be 0
       start_row (Since a b) be sh one = ap (λ l. l 0) sh
       start_row (WeakSince a b) be sh one = ap (λ l. l 0) sh
+      start_row _ be sh one = absurd (omega arith)
 
       keep_row : (y : Line) → (s : Sign) → Operands y s (λ a _. bits (place x n r a) ≡ f a) → Behaves word y f (f k) → Shown y (f k) (run (name x n r k))
           → memory y ≡ 1 → (t : ℕ) → Equation bits (get_or (variables_of (place x n r) (place x n r k) y) 0 (variable.Next 0)) (run (name x n r k)) t (suc t)
-      keep_row (Const b) s ops be sh one t = absurd (omega arith)
-      keep_row (Signal j) s ops be sh one t = absurd (omega arith)
-      keep_row (Not a) s ops be sh one t = absurd (omega arith)
-      keep_row (And a b) s ops be sh one t = absurd (omega arith)
-      keep_row (Or a b) s ops be sh one t = absurd (omega arith)
       keep_row (Next a) s ops be sh one t = ap (λ l. l t) sh ∙ be t ∙ ap (λ l. l (suc t)) (sym ops)
       keep_row (Until a b) s ops be sh one t = unroll a b ops be sh t
       keep_row (WeakUntil a b) s ops be sh one t = unroll a b ops be sh t
@@ -255,6 +194,7 @@ module _ (x : ℕ → Line) (n r : ℕ) (f : ℕ → Values two) where
       keep_row (WeakPrevious a) s ops be sh one t = ap (λ l. l (suc t)) sh ∙ be (suc t) ∙ ap (λ l. l t) (sym ops)
       keep_row (Since a b) s ops be sh one t = ap (λ l. l (suc t)) sh ∙ ap (λ l. l t) (sym (bits_place k hk u))
       keep_row (WeakSince a b) s ops be sh one t = ap (λ l. l (suc t)) sh ∙ ap (λ l. l t) (sym (bits_place k hk u))
+      keep_row _ s ops be sh one t = absurd (omega arith)
 
     S : ℕ → ℕ
     S k = word.stem + pasts x k * word.cycle
@@ -274,12 +214,6 @@ module _ (x : ℕ → Line) (n r : ℕ) (f : ℕ → Values two) where
         → ((s : Sign) → has x n r k s ≡ true → Operands y s (λ a _. bits (place x n r a) ≡ f a))
         → (i : ℕ) → i < length (pairs_of (place x n r) (place x n r k) (has x n r k) y)
         → (d : Pair) → Often (bits (get_or (pairs_of (place x n r) (place x n r k) (has x n r k) y) i d).from) (bits (get_or (pairs_of (place x n r) (place x n r k) (has x n r k) y) i d).to)
-    pair_row k hk (Const b) e lo row ops i hi d = absurd (not-suc-le-zero hi)
-    pair_row k hk (Signal j) e lo row ops i hi d = absurd (not-suc-le-zero hi)
-    pair_row k hk (Not a) e lo row ops i hi d = absurd (not-suc-le-zero hi)
-    pair_row k hk (And a b) e lo row ops i hi d = absurd (not-suc-le-zero hi)
-    pair_row k hk (Or a b) e lo row ops i hi d = absurd (not-suc-le-zero hi)
-    pair_row k hk (Next a) e lo row ops i hi d = absurd (not-suc-le-zero hi)
     pair_row k hk (Until a b) e lo row ops i hi d =
         the_pair (has x n r k plus) (place x n r k) (place x n r b)
         (λ h.
@@ -292,10 +226,7 @@ module _ (x : ℕ → Line) (n r : ℕ) (f : ℕ → Values two) where
         subst₂ Often (sym (ops minus h).0) (sym (bits_place k hk (used_of x r n k minus h)))
         (weak_often word.cycle (S k) word.sizes.3 (f a) (f b) (f k) (rep k hk a lo.0) (rep k hk b lo.1) row))
         i hi d
-    pair_row k hk (Previous a) e lo row ops i hi d = absurd (not-suc-le-zero hi)
-    pair_row k hk (WeakPrevious a) e lo row ops i hi d = absurd (not-suc-le-zero hi)
-    pair_row k hk (Since a b) e lo row ops i hi d = absurd (not-suc-le-zero hi)
-    pair_row k hk (WeakSince a b) e lo row ops i hi d = absurd (not-suc-le-zero hi)
+    pair_row k hk _ e lo row ops i hi d = absurd (not-suc-le-zero hi)
 
     by_sign : (k : ℕ) → k < n → (s : Sign) → has x n r k s ≡ true → Operands (x k) s (λ a _. bits (place x n r a) ≡ f a)
     by_sign k hk s h =

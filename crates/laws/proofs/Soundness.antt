@@ -91,12 +91,6 @@ module _ (word : Word Bool) (x : ℕ → Line) (n r : ℕ) (run g : Bits) (is : 
         subst (λ (z : Pair). Often (g z.from) (g z.to)) (pair_is x n r k hk p e) (acc (total (made_pairs x n r) k) (pair_in x n r k hk p e))
 
     fair : (k : ℕ) → k < n → (y : Line) → x k ≡ y → (s : Sign) → has x n r k s ≡ true → FairLine y s own (own k)
-    fair k hk (Const b) e s h = tt
-    fair k hk (Signal i) e s h = tt
-    fair k hk (Not a) e s h = tt
-    fair k hk (And a b) e s h = tt
-    fair k hk (Or a b) e s h = tt
-    fair k hk (Next a) e s h = tt
     fair k hk (Until a b) e plus h =
         often k hk (record { from = place x n r k; to = place x n r b })
         (ap (pairs_of (place x n r) (place x n r k) (has x n r k)) e ∙ ap (λ c. one_pair c (place x n r k) (place x n r b)) h)
@@ -105,10 +99,7 @@ module _ (word : Word Bool) (x : ℕ → Line) (n r : ℕ) (run g : Bits) (is : 
     fair k hk (WeakUntil a b) e minus h =
         often k hk (record { from = place x n r a; to = place x n r k })
         (ap (pairs_of (place x n r) (place x n r k) (has x n r k)) e ∙ ap (λ c. one_pair c (place x n r a) (place x n r k)) h)
-    fair k hk (Previous a) e s h = tt
-    fair k hk (WeakPrevious a) e s h = tt
-    fair k hk (Since a b) e s h = tt
-    fair k hk (WeakSince a b) e s h = tt
+    fair k hk _ e s h = tt
 
     module _ (low : (k : ℕ) → k < n → Lower k (x k)) (f : ℕ → Values two) (rows : (k : ℕ) → k < n → (t : ℕ) → Row two word (x k) f t (f k t)) where
       pub bound : (m k : ℕ) → k < m → k < n → (s : Sign) → has x n r k s ≡ true → (t : ℕ) → Bound s (own k t) (f k t)

@@ -5,7 +5,7 @@ use Rattle.recording.specs.Kind.{Kind, TwoValued}
 use Rattle.recording.specs.Kinds.{two, three}
 use Rattle.recording.specs.Word.{Word}
 use Rattle.sheet.specs.declared.line.Line.{Line}
-use Rattle.sheet.specs.declared.line.Line.TheVariants.{Const, Signal, Not, And, Or, Next, Until, WeakUntil, Previous, WeakPrevious, Since, WeakSince}
+use Rattle.sheet.specs.declared.line.Line.TheVariants.{Since, WeakSince}
 use Rattle.sheet.specs.Table.{line, Sheet, HasSignals}
 use Rattle.meaning.specs.Sheet.{Values, Valuation, Holds, Row, constant, rule_of}
 use Rattle.meaning.specs.Verdict.{steady, horizon}
@@ -43,20 +43,11 @@ always K P holds lines sheet some word nam =
 module _ (K : Kind) (only : TwoValued K) where
   -- what a variable shows, read as bits
   shown_bits : (x : Line) (y : Values K) (t : ℕ) → is_yes K only (shown K x y t) ≡ shown two x (λ s. is_yes K only (y s)) t
-  shown_bits (Const b) y t = refl
-  shown_bits (Signal i) y t = refl
-  shown_bits (Not a) y t = refl
-  shown_bits (And a b) y t = refl
-  shown_bits (Or a b) y t = refl
-  shown_bits (Next a) y t = refl
-  shown_bits (Until a b) y t = refl
-  shown_bits (WeakUntil a b) y t = refl
-  shown_bits (Previous a) y t = refl
-  shown_bits (WeakPrevious a) y t = refl
   shown_bits (Since a b) y zero = is_yes_no K only
   shown_bits (Since a b) y (suc t) = refl
   shown_bits (WeakSince a b) y zero = is_yes_of K only K.Yes refl
   shown_bits (WeakSince a b) y (suc t) = refl
+  shown_bits _ y t = refl
 
   -- a bit that bounds a value's bit bounds the value
   bounds : (s : Sign) (b : Bool) (v : K.Value) → Bound s b (is_yes K only v) → Bounds K s (constant K b) v

@@ -4,7 +4,7 @@ use native.Mathlib.Decide.{dec_lt}
 use Rattle.recording.specs.Kinds.{two}
 use Rattle.recording.specs.Word.{Word}
 use Rattle.sheet.specs.declared.line.Line.{Line}
-use Rattle.sheet.specs.declared.line.Line.TheVariants.{Const, Signal, Not, And, Or, Next, Until, WeakUntil, Previous, WeakPrevious, Since, WeakSince}
+use Rattle.sheet.specs.declared.line.Line.TheVariants.{Since, WeakSince}
 use Rattle.sheet.specs.Table.{Lower, Named, past, pasts}
 use Rattle.meaning.specs.Sheet.{Values, Periodic, before, Row}
 use Rattle.meaning.proofs.Period.{period_below, row_period, carries_periodic}
@@ -27,20 +27,11 @@ back_carried start l r z v S hv pl pr e =
 module _ (word : Word Bool) (k S : ℕ) (stem : word.stem ≤ S) (f : ℕ → Values two) (rep : (a : ℕ) → a < k → Periodic two word.cycle S (f a)) (y : Values two) where
   shown_period : (x : Line) → Lower k x → Named word.signals x → ((t : ℕ) → Row two word x f t (y t))
       → Periodic two word.cycle (S + past x * word.cycle) (shown two x y)
-  shown_period (Const b) low nam row = row_period two word k S stem f rep y (Const b) low nam row
-  shown_period (Signal i) low nam row = row_period two word k S stem f rep y (Signal i) low nam row
-  shown_period (Not a) low nam row = row_period two word k S stem f rep y (Not a) low nam row
-  shown_period (And a b) low nam row = row_period two word k S stem f rep y (And a b) low nam row
-  shown_period (Or a b) low nam row = row_period two word k S stem f rep y (Or a b) low nam row
-  shown_period (Next a) low nam row = row_period two word k S stem f rep y (Next a) low nam row
-  shown_period (Until a b) low nam row = row_period two word k S stem f rep y (Until a b) low nam row
-  shown_period (WeakUntil a b) low nam row = row_period two word k S stem f rep y (WeakUntil a b) low nam row
-  shown_period (Previous a) low nam row = row_period two word k S stem f rep y (Previous a) low nam row
-  shown_period (WeakPrevious a) low nam row = row_period two word k S stem f rep y (WeakPrevious a) low nam row
   shown_period (Since a b) low nam row = λ t h.
       back_carried false (f a) (f b) y word.cycle S word.sizes.3 (rep a low.0) (rep b low.1) (row_behaves word (Since a b) f y row) t (omega arith)
   shown_period (WeakSince a b) low nam row = λ t h.
       back_carried true (f a) (f b) y word.cycle S word.sizes.3 (rep a low.0) (rep b low.1) (row_behaves word (WeakSince a b) f y row) t (omega arith)
+  shown_period x low nam row = row_period two word k S stem f rep y x low nam row
 
 pasts_le : (x : ℕ → Line) (v k n : ℕ) → k ≤ n → pasts x k * v ≤ pasts x n * v
 pasts_le x v k zero h = let e : k ≡ 0 = omega arith in rw e (omega arith)

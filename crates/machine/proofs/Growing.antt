@@ -1,7 +1,7 @@
 -- One line more in a work.
 use Rattle.std.proofs.Common.{◌≡◌, ℕ, ◌+◌, ◌-◌, ◌<◌, ◌≤◌, Bool, true, false, cond, List, [], ◌∷◌, ◌++◌, length, sym, refl, ap, ◌∙◌, subst, inl, inr, add-one, arith, length-set, get_or-set_other, get_or-set_same}
 use Rattle.sheet.specs.declared.line.Line.{Line}
-use Rattle.sheet.specs.declared.line.Line.TheVariants.{Const, Signal, Not, And, Or, Next, Until, WeakUntil, Previous, WeakPrevious, Since, WeakSince}
+use Rattle.sheet.specs.declared.line.Line.TheVariants.{Not, And, Or, Next, Until, WeakUntil, Previous, WeakPrevious, Since, WeakSince}
 use Rattle.sheet.specs.Table.{line, Lower, Sheet}
 use Rattle.meaning.specs.Sheet.{rule_of}
 use Rattle.machine.specs.declared.gate.Gate.TheVariants as gate
@@ -19,46 +19,25 @@ use Rattle.machine.proofs.Wiring.{gates_most, variables_most, pairs_most}
 -- a line looks at the gates of its operands alone
 module _ (k : ℕ) (p q : ℕ → ℕ) (e : (a : ℕ) → a < k → p a ≡ q a) where
   gates_agree : (f v : ℕ) (y : Line) → Lower k y → gates_of p f v y ≡ gates_of q f v y
-  gates_agree f v (Const w) low = refl
-  gates_agree f v (Signal i) low = refl
   gates_agree f v (Not a) low = ap (λ z. gate.Not z ∷ []) (e a low)
   gates_agree f v (And a b) low = λ i. gate.And (e a low.0 i) (e b low.1 i) ∷ []
   gates_agree f v (Or a b) low = λ i. gate.Or (e a low.0 i) (e b low.1 i) ∷ []
-  gates_agree f v (Next a) low = refl
-  gates_agree f v (Until a b) low = refl
-  gates_agree f v (WeakUntil a b) low = refl
-  gates_agree f v (Previous a) low = refl
-  gates_agree f v (WeakPrevious a) low = refl
   gates_agree f v (Since a b) low = λ i. gate.Var v ∷ gate.And (e a low.0 i) f ∷ gate.Or (e b low.1 i) (f + 1) ∷ []
   gates_agree f v (WeakSince a b) low = λ i. gate.Var v ∷ gate.And (e a low.0 i) f ∷ gate.Or (e b low.1 i) (f + 1) ∷ []
+  gates_agree f v _ low = refl
 
   variables_agree : (own : ℕ) (y : Line) → Lower k y → variables_of p own y ≡ variables_of q own y
-  variables_agree own (Const v) low = refl
-  variables_agree own (Signal i) low = refl
-  variables_agree own (Not a) low = refl
-  variables_agree own (And a b) low = refl
-  variables_agree own (Or a b) low = refl
   variables_agree own (Next a) low = ap (λ z. variable.Next z ∷ []) (e a low)
   variables_agree own (Until a b) low = λ i. variable.Until (e a low.0 i) (e b low.1 i) ∷ []
   variables_agree own (WeakUntil a b) low = λ i. variable.Until (e a low.0 i) (e b low.1 i) ∷ []
   variables_agree own (Previous a) low = ap (λ z. variable.Back z false ∷ []) (e a low)
   variables_agree own (WeakPrevious a) low = ap (λ z. variable.Back z true ∷ []) (e a low)
-  variables_agree own (Since a b) low = refl
-  variables_agree own (WeakSince a b) low = refl
+  variables_agree own _ low = refl
 
   pairs_agree : (own : ℕ) (signs : Sign → Bool) (y : Line) → Lower k y → pairs_of p own signs y ≡ pairs_of q own signs y
-  pairs_agree own signs (Const v) low = refl
-  pairs_agree own signs (Signal i) low = refl
-  pairs_agree own signs (Not a) low = refl
-  pairs_agree own signs (And a b) low = refl
-  pairs_agree own signs (Or a b) low = refl
-  pairs_agree own signs (Next a) low = refl
   pairs_agree own signs (Until a b) low = ap (one_pair (signs plus) own) (e b low.1)
   pairs_agree own signs (WeakUntil a b) low = ap (λ z. one_pair (signs minus) z own) (e a low.0)
-  pairs_agree own signs (Previous a) low = refl
-  pairs_agree own signs (WeakPrevious a) low = refl
-  pairs_agree own signs (Since a b) low = refl
-  pairs_agree own signs (WeakSince a b) low = refl
+  pairs_agree own signs _ low = refl
 
 -- line k put into a work that has the lines below it
 module _ (lines : List Line) (k : ℕ) (w : Work) (s : Signs) (sheet : Sheet lines) (below : k < length lines) (few : length lines ≤ 64) (built : Built lines k w)

@@ -1,6 +1,7 @@
 -- Lists laid one after the other, and where each begins.
-use Rattle.std.proofs.Common.{◌≡◌, ℕ, zero, suc, ◌+◌, ◌-◌, ◌<◌, ◌≤◌, ◌⊎◌, List, [], ◌∷◌, ◌++◌, length, get_or, sym, refl, ap, ◌∙◌, ap₂, inl, inr, not-suc-le-zero, suc-add, zero-add, arith, length-append}
+use Rattle.std.proofs.Common.{◌≡◌, ℕ, zero, suc, ◌+◌, ◌-◌, ◌<◌, ◌≤◌, ◌⊎◌, List, length, get_or, sym, refl, ap, ◌∙◌, ap₂, inl, inr, not-suc-le-zero, arith, length-append}
 use native.Mathlib.Decide.{dec_lt}
+use Rattle.std.proofs.lemmas.List.{get_or-append_right}
 use lib.ListN.{get_or-append}
 use Rattle.machine.specs.Translation.{total, joined}
 
@@ -16,10 +17,6 @@ total_le c k (suc n) h =
     ]
 
 module _ {A : Type 0} where
-  pub get_d_after : (s t : List A) (i : ℕ) (d : A) → get_or (s ++ t) (length s + i) d ≡ get_or t i d
-  get_d_after [] t i d = ap (λ m. get_or t m d) (zero-add i)
-  get_d_after (x ∷ s) t i d = ap (λ m. get_or (x ∷ (s ++ t)) m d) (suc-add (length s) i) ∙ get_d_after s t i d
-
   module _ (l : ℕ → List A) (d : A) (c : ℕ → ℕ) (ec : (k : ℕ) → length (l k) ≡ c k) where
     pub joined_length : (n : ℕ) → length (joined l n) ≡ total c n
     joined_length zero = refl
@@ -32,8 +29,9 @@ module _ {A : Type 0} where
           | inl a ↦
               get_or-append (joined l n) (l n) d (total c k + i) (omega (arith, total_le c k n a, joined_length n)) ∙ joined_at n k i a hi
           | inr e ↦
-              ap (λ m. get_or (joined l n ++ l n) (m + i) d) (ap (total c) e ∙ sym (joined_length n)) ∙ get_d_after (joined l n) (l n) i d
-              ∙ ap (λ m. get_or (l m) i d) (sym e)
+              (let same : total c k ≡ total c n = ap (total c) e in
+              let at : total c k + i - total c n ≡ i = omega arith in
+              get_or-append_right (joined l n) (l n) (total c n) (total c k + i) d (joined_length n) (omega arith) ∙ (λ j. get_or (l (sym e j)) (at j) d))
         ]
 
     pub joined_find : (n j : ℕ) → j < length (joined l n) → (k : ℕ) × (i : ℕ) × (k < n) × (i < c k) × (j ≡ total c k + i)

@@ -1,7 +1,7 @@
 -- Where a used line's gates, its variable and its pair stand in the translation.
 use Rattle.std.proofs.Common.{◌≡◌, ℕ, ◌+◌, ◌-◌, ◌<◌, ◌≤◌, Bool, true, false, cond, List, [], ◌∷◌, length, get_or, sym, refl, ap, ◌∙◌, add-zero, arith}
 use Rattle.sheet.specs.declared.line.Line.{Line}
-use Rattle.sheet.specs.declared.line.Line.TheVariants.{Const, Signal, Not, And, Or, Next, Until, WeakUntil, Previous, WeakPrevious, Since, WeakSince}
+use Rattle.sheet.specs.declared.line.Line.TheVariants.{Const}
 use Rattle.machine.specs.declared.gate.Gate.TheVariants as gate
 use Rattle.machine.specs.declared.gate.Pair.{Pair}
 use Rattle.machine.specs.declared.gate.Variable.TheVariants as variable
@@ -11,45 +11,15 @@ use Rattle.machine.proofs.Joins.{total_le, joined_length, joined_at}
 
 pub size_pos : (y : Line) → 0 < size y
 size_pos (Const v) = omega arith
-size_pos (Signal i) = omega arith
-size_pos (Not a) = omega arith
-size_pos (And a b) = omega arith
-size_pos (Or a b) = omega arith
-size_pos (Next a) = omega arith
-size_pos (Until a b) = omega arith
-size_pos (WeakUntil a b) = omega arith
-size_pos (Previous a) = omega arith
-size_pos (WeakPrevious a) = omega arith
-size_pos (Since a b) = omega arith
-size_pos (WeakSince a b) = omega arith
+size_pos _ = omega arith
 
 pub size_le : (y : Line) → size y ≤ 3
 size_le (Const v) = omega arith
-size_le (Signal i) = omega arith
-size_le (Not a) = omega arith
-size_le (And a b) = omega arith
-size_le (Or a b) = omega arith
-size_le (Next a) = omega arith
-size_le (Until a b) = omega arith
-size_le (WeakUntil a b) = omega arith
-size_le (Previous a) = omega arith
-size_le (WeakPrevious a) = omega arith
-size_le (Since a b) = omega arith
-size_le (WeakSince a b) = omega arith
+size_le _ = omega arith
 
 pub memory_le : (y : Line) → memory y ≤ 1
 memory_le (Const v) = omega arith
-memory_le (Signal i) = omega arith
-memory_le (Not a) = omega arith
-memory_le (And a b) = omega arith
-memory_le (Or a b) = omega arith
-memory_le (Next a) = omega arith
-memory_le (Until a b) = omega arith
-memory_le (WeakUntil a b) = omega arith
-memory_le (Previous a) = omega arith
-memory_le (WeakPrevious a) = omega arith
-memory_le (Since a b) = omega arith
-memory_le (WeakSince a b) = omega arith
+memory_le _ = omega arith
 
 -- something is counted: the line is used
 pub counted : (b : Bool) (m i : ℕ) → i < cond b m 0 → (b ≡ true) × (i < m)
@@ -58,31 +28,11 @@ counted false m i h = absurd (omega arith)
 
 pub gates_size : (p : ℕ → ℕ) (f v : ℕ) (y : Line) → length (gates_of p f v y) ≡ size y
 gates_size p f v (Const b) = refl
-gates_size p f v (Signal i) = refl
-gates_size p f v (Not a) = refl
-gates_size p f v (And a b) = refl
-gates_size p f v (Or a b) = refl
-gates_size p f v (Next a) = refl
-gates_size p f v (Until a b) = refl
-gates_size p f v (WeakUntil a b) = refl
-gates_size p f v (Previous a) = refl
-gates_size p f v (WeakPrevious a) = refl
-gates_size p f v (Since a b) = refl
-gates_size p f v (WeakSince a b) = refl
+gates_size p f v _ = refl
 
 pub variables_size : (p : ℕ → ℕ) (own : ℕ) (y : Line) → length (variables_of p own y) ≡ memory y
 variables_size p own (Const v) = refl
-variables_size p own (Signal i) = refl
-variables_size p own (Not a) = refl
-variables_size p own (And a b) = refl
-variables_size p own (Or a b) = refl
-variables_size p own (Next a) = refl
-variables_size p own (Until a b) = refl
-variables_size p own (WeakUntil a b) = refl
-variables_size p own (Previous a) = refl
-variables_size p own (WeakPrevious a) = refl
-variables_size p own (Since a b) = refl
-variables_size p own (WeakSince a b) = refl
+variables_size p own _ = refl
 
 pub cond_length : {A : Type 0} (b : Bool) (l : List A) (m : ℕ) → length l ≡ m → length (cond b l []) ≡ cond b m 0
 cond_length true l m e = e

@@ -14,15 +14,10 @@ hands_on : (y : Line) (s : Sign) (a : ℕ) (P : ℕ → Sign → Type 0) → Ope
 hands_on (Const b) s a P p h = absurd h
 hands_on (Signal i) s a P p h = absurd h
 hands_on (Not b) s a P p h = absurd h
-hands_on (And b c) s a P p h = elim h [ inl e ↦ subst (λ z. P z s) (sym e) p.0 | inr e ↦ subst (λ z. P z s) (sym e) p.1 ]
-hands_on (Or b c) s a P p h = elim h [ inl e ↦ subst (λ z. P z s) (sym e) p.0 | inr e ↦ subst (λ z. P z s) (sym e) p.1 ]
 hands_on (Next b) s a P p h = subst (λ z. P z s) (sym h) p
-hands_on (Until b c) s a P p h = elim h [ inl e ↦ subst (λ z. P z s) (sym e) p.0 | inr e ↦ subst (λ z. P z s) (sym e) p.1 ]
-hands_on (WeakUntil b c) s a P p h = elim h [ inl e ↦ subst (λ z. P z s) (sym e) p.0 | inr e ↦ subst (λ z. P z s) (sym e) p.1 ]
 hands_on (Previous b) s a P p h = subst (λ z. P z s) (sym h) p
 hands_on (WeakPrevious b) s a P p h = subst (λ z. P z s) (sym h) p
-hands_on (Since b c) s a P p h = elim h [ inl e ↦ subst (λ z. P z s) (sym e) p.0 | inr e ↦ subst (λ z. P z s) (sym e) p.1 ]
-hands_on (WeakSince b c) s a P p h = elim h [ inl e ↦ subst (λ z. P z s) (sym e) p.0 | inr e ↦ subst (λ z. P z s) (sym e) p.1 ]
+hands_on _ s a P p h = elim h [ inl e ↦ subst (λ z. P z s) (sym e) p.0 | inr e ↦ subst (λ z. P z s) (sym e) p.1 ]
 
 module _ (x : ℕ → Line) (n r : ℕ) where
   one : (a b : ℕ) (q : Bool) → (eqb a b && q) ≡ true → (a ≡ b) × (q ≡ true)

@@ -62,35 +62,17 @@ module _ (x : ℕ → Line) (n r : ℕ) (low : (k : ℕ) → k < n → Lower k (
 
   early : (k i : ℕ) (y : Line) (s : Sign) → Lower k y → (memory y ≡ 1 → name x n r k < V) → Operands y s (Good k) → i < size y → Early k i (get_or (gates_at k y) i (gate.Const false))
   early k zero (Const b) s lo hv ops hi = refl
-  early k (suc i) (Const b) s lo hv ops hi = absurd (omega arith)
   early k zero (Signal j) s lo hv ops hi = lt-ltb j 32 lo
-  early k (suc i) (Signal j) s lo hv ops hi = absurd (omega arith)
   early k zero (Not a) s lo hv ops hi = lt-ltb (place x n r a) (first x n r k + 0) (omega (arith, ops.0))
-  early k (suc i) (Not a) s lo hv ops hi = absurd (omega arith)
   early k zero (And a b) s lo hv ops hi = both_fit (place x n r a) (place x n r b) (first x n r k + 0) (omega (arith, ops.0.0)) (omega (arith, ops.1.0))
-  early k (suc i) (And a b) s lo hv ops hi = absurd (omega arith)
   early k zero (Or a b) s lo hv ops hi = both_fit (place x n r a) (place x n r b) (first x n r k + 0) (omega (arith, ops.0.0)) (omega (arith, ops.1.0))
-  early k (suc i) (Or a b) s lo hv ops hi = absurd (omega arith)
-  early k zero (Next a) s lo hv ops hi = lt-ltb _ _ (hv refl)
-  early k (suc i) (Next a) s lo hv ops hi = absurd (omega arith)
-  early k zero (Until a b) s lo hv ops hi = lt-ltb _ _ (hv refl)
-  early k (suc i) (Until a b) s lo hv ops hi = absurd (omega arith)
-  early k zero (WeakUntil a b) s lo hv ops hi = lt-ltb _ _ (hv refl)
-  early k (suc i) (WeakUntil a b) s lo hv ops hi = absurd (omega arith)
-  early k zero (Previous a) s lo hv ops hi = lt-ltb _ _ (hv refl)
-  early k (suc i) (Previous a) s lo hv ops hi = absurd (omega arith)
-  early k zero (WeakPrevious a) s lo hv ops hi = lt-ltb _ _ (hv refl)
-  early k (suc i) (WeakPrevious a) s lo hv ops hi = absurd (omega arith)
   early k i (Since a b) s lo hv ops hi = three_early k a b i ops.0.0 ops.1.0 (hv refl) hi
   early k i (WeakSince a b) s lo hv ops hi = three_early k a b i ops.0.0 ops.1.0 (hv refl) hi
+  early k zero _ s lo hv ops hi = lt-ltb _ _ (hv refl)
+  early k (suc i) _ s lo hv ops hi = absurd (omega arith)
 
   within : (k : ℕ) (y : Line) (s : Sign) → Operands y s (Good k) → place x n r k < G → memory y ≡ 1
       → variable_fits G (get_or (variables_of (place x n r) (place x n r k) y) 0 (variable.Next 0)) ≡ true
-  within k (Const b) s ops own one = absurd (omega arith)
-  within k (Signal j) s ops own one = absurd (omega arith)
-  within k (Not a) s ops own one = absurd (omega arith)
-  within k (And a b) s ops own one = absurd (omega arith)
-  within k (Or a b) s ops own one = absurd (omega arith)
   within k (Next a) s ops own one = lt-ltb _ _ ops.1
   within k (Until a b) s ops own one = both_fit _ _ _ ops.0.1 ops.1.1
   within k (WeakUntil a b) s ops own one = both_fit _ _ _ ops.0.1 ops.1.1
@@ -98,6 +80,7 @@ module _ (x : ℕ → Line) (n r : ℕ) (low : (k : ℕ) → k < n → Lower k (
   within k (WeakPrevious a) s ops own one = lt-ltb _ _ ops.1
   within k (Since a b) s ops own one = lt-ltb _ _ own
   within k (WeakSince a b) s ops own one = lt-ltb _ _ own
+  within k _ s ops own one = absurd (omega arith)
 
   one_end : (b : Bool) (p q : ℕ) → (b ≡ true → (p < G) × (q < G)) → (i : ℕ) → i < length (one_pair b p q) → (d : Pair) → pair_fits G (get_or (one_pair b p q) i d) ≡ true
   one_end true p q h zero hi d = both_fit _ _ _ (h refl).0 (h refl).1
@@ -109,20 +92,11 @@ module _ (x : ℕ → Line) (n r : ℕ) (low : (k : ℕ) → k < n → Lower k (
 
   ends : (k : ℕ) → k < n → (y : Line) → ((s : Sign) → has x n r k s ≡ true → Operands y s (Good k)) → (i : ℕ) → i < length (pairs_at k y) → (d : Pair)
       → pair_fits G (get_or (pairs_at k y) i d) ≡ true
-  ends k hk (Const b) ops i hi d = absurd (not-suc-le-zero hi)
-  ends k hk (Signal j) ops i hi d = absurd (not-suc-le-zero hi)
-  ends k hk (Not a) ops i hi d = absurd (not-suc-le-zero hi)
-  ends k hk (And a b) ops i hi d = absurd (not-suc-le-zero hi)
-  ends k hk (Or a b) ops i hi d = absurd (not-suc-le-zero hi)
-  ends k hk (Next a) ops i hi d = absurd (not-suc-le-zero hi)
   ends k hk (Until a b) ops i hi d =
       one_end (has x n r k plus) (place x n r k) (place x n r b) (λ h. (place_in k hk (used_of x r n k plus h), (ops plus h).1.1)) i hi d
   ends k hk (WeakUntil a b) ops i hi d =
       one_end (has x n r k minus) (place x n r a) (place x n r k) (λ h. ((ops minus h).0.1, place_in k hk (used_of x r n k minus h))) i hi d
-  ends k hk (Previous a) ops i hi d = absurd (not-suc-le-zero hi)
-  ends k hk (WeakPrevious a) ops i hi d = absurd (not-suc-le-zero hi)
-  ends k hk (Since a b) ops i hi d = absurd (not-suc-le-zero hi)
-  ends k hk (WeakSince a b) ops i hi d = absurd (not-suc-le-zero hi)
+  ends k hk _ ops i hi d = absurd (not-suc-le-zero hi)
 
   gates_wired : (j : ℕ) → j < G → gate_fits j V (gate_at (translation x n r).gates j) ≡ true
   gates_wired j hj =
@@ -177,18 +151,9 @@ one_pair_le true p q = omega arith
 one_pair_le false p q = omega arith
 
 pub pairs_le : (p : ℕ → ℕ) (own : ℕ) (signs : Sign → Bool) (y : Line) → length (pairs_of p own signs y) ≤ 1
-pairs_le p own signs (Const b) = omega arith
-pairs_le p own signs (Signal j) = omega arith
-pairs_le p own signs (Not a) = omega arith
-pairs_le p own signs (And a b) = omega arith
-pairs_le p own signs (Or a b) = omega arith
-pairs_le p own signs (Next a) = omega arith
 pairs_le p own signs (Until a b) = one_pair_le (signs plus) own (p b)
 pairs_le p own signs (WeakUntil a b) = one_pair_le (signs minus) (p a) own
-pairs_le p own signs (Previous a) = omega arith
-pairs_le p own signs (WeakPrevious a) = omega arith
-pairs_le p own signs (Since a b) = omega arith
-pairs_le p own signs (WeakSince a b) = omega arith
+pairs_le p own signs _ = omega arith
 
 module _ (x : ℕ → Line) (n r : ℕ) where
   -- k lines make at most 3 k gates, k variables and k pairs

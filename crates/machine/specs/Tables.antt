@@ -33,6 +33,15 @@ gate_fits k v (gate.Not a) = nat_lt a k
 gate_fits k v (gate.And a b) = nat_lt a k && nat_lt b k
 gate_fits k v (gate.Or a b) = nat_lt a k && nat_lt b k
 
+-- the signal that a gate names, if it names one, is below c
+abbrev pub Names : ℕ → Gate → Type 0
+Names c (gate.Const b) = Unit {0}
+Names c (gate.Signal i) = i < c
+Names c (gate.Var j) = Unit {0}
+Names c (gate.Not a) = Unit {0}
+Names c (gate.And a b) = Unit {0}
+Names c (gate.Or a b) = Unit {0}
+
 -- a variable, and a pair, that names gates below k
 abbrev pub variable_fits : ℕ → Variable → Bool
 variable_fits k (variable.Next a) = nat_lt a k

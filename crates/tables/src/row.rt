@@ -20,10 +20,7 @@ impl Row for Gate {
 
     fn write_row<W: fmt::Write>(self, number: usize, f: &mut fmt::Formatter<W>) -> fmt::Result {
         match self {
-            Gate::Const(bit) => {
-                let a = bit as u8;
-                write!(f, "{number} const {a} -")
-            }
+            Gate::Const(bit) => write!(f, "{number} const {} -", u8::from(bit)),
             Gate::Signal(a) => write!(f, "{number} sig {a} -"),
             Gate::Var(a) => write!(f, "{number} var {a} -"),
             Gate::Not(a) => write!(f, "{number} not {a} -"),
@@ -40,10 +37,7 @@ impl Row for Variable {
         match self {
             Variable::Next(a) => write!(f, "{number} next {a} - -"),
             Variable::Until(a, b) => write!(f, "{number} until {a} {b} -"),
-            Variable::Back(a, start) => {
-                let s = start as u8;
-                write!(f, "{number} back {a} - {s}")
-            }
+            Variable::Back(a, start) => write!(f, "{number} back {a} - {}", u8::from(start)),
         }
     }
 }
@@ -52,8 +46,7 @@ impl Row for Pair {
     ghost text = { pair_text };
 
     fn write_row<W: fmt::Write>(self, number: usize, f: &mut fmt::Formatter<W>) -> fmt::Result {
-        let from = self.from;
-        let to = self.to;
+        let Pair { from, to } = self;
         write!(f, "{number} {from} {to}")
     }
 }

@@ -9,10 +9,10 @@ impl fmt::Display for Printed<'_> {
     ghost output = { λ p. Some (printed_text p) };
 
     fn fmt<W: fmt::Write>(&self, f: &mut fmt::Formatter<W>) -> fmt::Result {
-        let root = self.machine.root();
-        write_table("gate kind a b", self.machine.gates(), f)?;
-        write_table("var kind a b start", self.machine.variables(), f)?;
-        write_table("fair from to", self.machine.pairs(), f)?;
-        writeln!(f, "root\n{root}")
+        let machine = self.machine;
+        write_table("gate kind a b", machine.gates(), f)?;
+        write_table("var kind a b start", machine.variables(), f)?;
+        write_table("fair from to", machine.pairs(), f)?;
+        writeln!(f, "root\n{}", machine.root())
     }
 }

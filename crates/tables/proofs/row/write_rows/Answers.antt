@@ -1,6 +1,6 @@
 use Rattle.std.proofs.Common.{[], ◌∷◌, ◌++◌, is_ok, sym, ap, arith}
-use Rattle.std.proofs.Output.{has_written_append, has_written_of_eq}
-use Rattle.tables.proofs.Rows.{rows_more, rows_done}
+use Rattle.std.proofs.Output.{has_written_append}
+use Rattle.tables.proofs.Rows.{rows_more}
 use Rattle.tables.proofs.row.write_rows.Goals as goal
 
 pub loop-number-preserved : goal.loop-number-preserved
@@ -15,6 +15,3 @@ loop-number-preserved g c =
           has_written_append _ _ _ _ _ _ one (has_written_append _ _ _ _ _ _ two three)),
       rows_more g.T.Row.text c.args.rows.now c.loop-number.number c.index-rows-number.result iv.0 _ (omega arith) (sym c.index-rows-number.is) iv.2,
     )
-
-pub returns : goal.returns
-returns g c p e = has_written_of_eq _ _ _ _ _ (rows_done g.T.Row.text c.args.rows.now c.loop-number.number _ _ (omega arith) c.loop-number.invariant.2) (c.loop-number.invariant.1 p)
