@@ -53,7 +53,7 @@ fn no_stray(rows: &[u64], variables: usize) -> bool
     ensures { Decides result (Within variables rows.now) }
 {
     let limit = 1u128 << variables;
-    rows.iter().all(|row| u128::from(*row) < limit)
+    rows.iter().all(|&row| u128::from(row) < limit)
 }
 
 // The row that comes after row i of n.
