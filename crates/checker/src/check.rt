@@ -2,9 +2,10 @@
 ghost use Rattle.std.specs.Prelude.{◌≡◌, ◌<◌, ◌≤◌, length, Decides, MatchResult};
 ghost use Rattle.recording.specs.Tape.{Within};
 ghost use Rattle.checker.specs.CheckAnswer.{Accepted, Answer, Shape};
-ghost use Rattle.laws.specs.Checks.{Names, HasGateSignals};
+ghost use Rattle.laws.specs.Checks.{HasGateSignals};
 ghost use Rattle.checker.specs.declared.refusal.CheckRefusal.TheVariants.{NoSignal};
 ghost use Rattle.machine.specs.Machines.{tables};
+ghost use Rattle.machine.specs.Tables.{Names};
 ghost use Rattle.laws.specs.Runs.{after};
 
 use crate::evaluation::moment_of;

@@ -2,11 +2,11 @@
 ghost use Rattle.std.specs.Prelude.{◌≡◌, ◌<◌, ◌≤◌, true, length};
 ghost use Rattle.recording.specs.Tape.{bit};
 ghost use Rattle.recording.specs.Word.{meant};
-ghost use Rattle.laws.specs.Checks.{Names, HasGateSignals};
+ghost use Rattle.laws.specs.Checks.{HasGateSignals};
 ghost use Rattle.machine.specs.Machines.{tables};
 ghost use Rattle.checker.specs.Moments.{MomentAt, listed};
 ghost use Rattle.laws.specs.Runs.{Reads};
-ghost use Rattle.machine.specs.Tables.{gate_fits};
+ghost use Rattle.machine.specs.Tables.{Names, gate_fits};
 
 use crate::moment::Moment;
 use machine::gate::Gate;

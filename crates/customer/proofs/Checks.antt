@@ -13,11 +13,11 @@ use Rattle.meaning.specs.Verdict.{steady, horizon}
 use Rattle.meaning.proofs.Rows.{few_samples, pasts_below}
 use Rattle.machine.specs.declared.gate.Gate.{Gate}
 use Rattle.machine.specs.declared.gate.Gate.TheVariants as gate
-use Rattle.machine.specs.Tables.{Tables, gate_at}
+use Rattle.machine.specs.Tables.{Tables, Names, gate_at}
 use Rattle.machine.specs.Translation.{used, size, gates_of, made_gates, first, place, name, gate_lists, translation, translate}
 use Rattle.machine.proofs.Joins.{joined_find}
 use Rattle.machine.proofs.Numbers.{counted, gate_counts, gate_is}
-use Rattle.laws.specs.Checks.{Names, HasGateSignals}
+use Rattle.laws.specs.Checks.{HasGateSignals}
 use Rattle.laws.specs.Laws.{written_out}
 use Rattle.laws.specs.Runs.{Accepts, row_at, row_bits, endless}
 use Rattle.laws.proofs.Endless.{row_in}

@@ -8,9 +8,9 @@ use Rattle.machine.specs.declared.gate.Gate.{Gate}
 use Rattle.machine.specs.declared.gate.Gate.TheVariants as gate
 use Rattle.machine.specs.declared.gate.Variable.{Variable}
 use Rattle.machine.specs.declared.gate.Variable.TheVariants as variable
-use Rattle.laws.specs.Checks.{Names, HasGateSignals, Turns, Passes}
+use Rattle.laws.specs.Checks.{HasGateSignals, Turns, Passes}
 use Rattle.laws.specs.Runs.{Bits, Reads, Starts, Equation, Accepting, Accepts, after, row_at, endless}
-use Rattle.machine.specs.Tables.{Tables, Wired, gate_at, variable_at, pair_at, gate_fits, variable_fits, pair_fits}
+use Rattle.machine.specs.Tables.{Tables, Names, Wired, gate_at, variable_at, pair_at, gate_fits, variable_fits, pair_fits}
 use Rattle.laws.proofs.Behave.{same_bit}
 use Rattle.laws.proofs.Endless.{row_in, row_low, row_repeats, row_same, row_times, row_back}
 

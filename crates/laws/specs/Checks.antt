@@ -3,18 +3,8 @@ use Rattle.std.specs.Prelude.{◌≡◌, ℕ, ◌-◌, ◌%◌, ◌<◌, ◌≤�
 use Rattle.recording.specs.Kind.{Kind}
 use Rattle.recording.specs.Word.{Word}
 use Rattle.machine.specs.declared.gate.Gate.{Gate}
-use Rattle.machine.specs.declared.gate.Gate.TheVariants as gate
 use Rattle.laws.specs.Runs.{Bits, Reads, Starts, Equation, Met, after, row_at}
-use Rattle.machine.specs.Tables.{Tables, gate_at, variable_at, pair_at}
-
--- the signal that a gate names, if it names one, is below c
-abbrev pub Names : ℕ → Gate → Type 0
-Names c (gate.Const b) = Unit {0}
-Names c (gate.Signal i) = i < c
-Names c (gate.Var j) = Unit {0}
-Names c (gate.Not a) = Unit {0}
-Names c (gate.And a b) = Unit {0}
-Names c (gate.Or a b) = Unit {0}
+use Rattle.machine.specs.Tables.{Tables, Names, gate_at, variable_at, pair_at}
 
 -- a recording of c signals has those that the gates name, used or not
 abbrev pub HasGateSignals : List Gate → ℕ → Type 0

@@ -1,5 +1,5 @@
 -- One line more in a work.
-use Rattle.std.proofs.Common.{◌≡◌, ℕ, ◌+◌, ◌-◌, ◌<◌, ◌≤◌, Bool, true, false, cond, List, [], ◌∷◌, length, get_or, set, sym, refl, ap, ◌∙◌, subst, inl, inr, add-one, arith, get_or-set_other, get_or-set_same}
+use Rattle.std.proofs.Common.{◌≡◌, ℕ, ◌+◌, ◌-◌, ◌<◌, ◌≤◌, Bool, true, false, cond, List, [], ◌∷◌, ◌++◌, length, sym, refl, ap, ◌∙◌, subst, inl, inr, add-one, arith, length-set, get_or-set_other, get_or-set_same}
 use Rattle.sheet.specs.declared.line.Line.{Line}
 use Rattle.sheet.specs.declared.line.Line.TheVariants.{Const, Signal, Not, And, Or, Next, Until, WeakUntil, Previous, WeakPrevious, Since, WeakSince}
 use Rattle.sheet.specs.Table.{line, Lower, Sheet}
@@ -8,12 +8,13 @@ use Rattle.machine.specs.declared.gate.Gate.TheVariants as gate
 use Rattle.machine.specs.declared.gate.Variable.TheVariants as variable
 use Rattle.machine.specs.declared.signs.Signs.{Signs}
 use Rattle.machine.specs.declared.work.Work.{Work}
-use Rattle.machine.specs.Building.{parts_to, Built}
+use Rattle.machine.specs.Building.{Built}
 use Rattle.machine.specs.Signs.{Sign, plus, minus}
-use Rattle.machine.specs.Translation.{has, size, memory, gates_of, variables_of, one_pair, pairs_of, first, place, name}
-use Rattle.machine.specs.Working.{Parts, extended, parts, place_in, told, is_used, added}
-use Rattle.machine.proofs.Joins.{below_suc}
-use Rattle.machine.proofs.Numbers.{size_le, memory_le}
+use Rattle.machine.specs.Translation.{has, used, size, joined, gates_of, variables_of, one_pair, pairs_of, made_gates, made_variables, first, place, name, gate_lists, variable_lists, pair_lists}
+use Rattle.machine.specs.Working.{place_in, own_place, Room, told, is_used, with_line}
+use Rattle.machine.proofs.Joins.{below_suc, joined_length}
+use Rattle.machine.proofs.Numbers.{gate_counts, variable_counts}
+use Rattle.machine.proofs.Wiring.{gates_most, variables_most, pairs_most}
 
 -- a line looks at the gates of its operands alone
 module _ (k : ℕ) (p q : ℕ → ℕ) (e : (a : ℕ) → a < k → p a ≡ q a) where
@@ -59,25 +60,9 @@ module _ (k : ℕ) (p q : ℕ → ℕ) (e : (a : ℕ) → a < k → p a ≡ q a)
   pairs_agree own signs (Since a b) low = refl
   pairs_agree own signs (WeakSince a b) low = refl
 
-  added_agrees : (f v : ℕ) (signs : Sign → Bool) (y : Line) (b : Parts) → Lower k y → added p f v signs y b ≡ added q f v signs y b
-  added_agrees f v signs y b low =
-      λ i. extended
-      (cond (is_used signs) (gates_agree f v y low i) [])
-      (cond (is_used signs) (variables_agree (f + (size y - 1)) y low i) [])
-      (pairs_agree (f + (size y - 1)) signs y low i)
-      b
-
-cond_le : (b : Bool) (m most : ℕ) → m ≤ most → cond b m 0 ≤ most
-cond_le true m most h = h
-cond_le false m most h = omega arith
-
-module _ (lines : List Line) (k : ℕ) (w w' : Work) (s : Signs) (sheet : Sheet lines) (below : k < length lines) (few : length lines ≤ 64) (built : Built lines k w)
-    (signs : told s ≡ has (line lines) (length lines) (rule_of lines) k)
-    (after : parts w' ≡ added (place_in w) w.gate_count w.variable_count (told s) (line lines k) (parts w))
-    (gates : w'.gate_count ≡ w.gate_count + cond (is_used (told s)) (size (line lines k)) 0)
-    (variables : w'.variable_count ≡ w.variable_count + cond (is_used (told s)) (memory (line lines k)) 0)
-    (pairs : w'.pair_count ≤ w.pair_count + 1)
-    (places : w'.places ≡ set w.places k (w.gate_count + (size (line lines k) - 1))) where
+-- line k put into a work that has the lines below it
+module _ (lines : List Line) (k : ℕ) (w : Work) (s : Signs) (sheet : Sheet lines) (below : k < length lines) (few : length lines ≤ 64) (built : Built lines k w)
+    (signs : told s ≡ has (line lines) (length lines) (rule_of lines) k) where
   abbrev x : ℕ → Line
   x = line lines
 
@@ -87,27 +72,50 @@ module _ (lines : List Line) (k : ℕ) (w w' : Work) (s : Signs) (sheet : Sheet 
   abbrev r : ℕ
   r = rule_of lines
 
+  first_is : length w.gates ≡ first x n r k
+  first_is = ap length built.gates ∙ joined_length (gate_lists x n r) (gate.Const false) (made_gates x n r) (gate_counts x n r) k
+
+  name_is : length w.variables ≡ name x n r k
+  name_is = ap length built.variables ∙ joined_length (variable_lists x n r) (variable.Next 0) (made_variables x n r) (variable_counts x n r) k
+
+  own_is : own_place (x k) w ≡ place x n r k
+  own_is = ap (λ g. g + (size (x k) - 1)) first_is
+
+  abbrev w' : Work
+  w' = with_line k (told s) (x k) w
+
   place_now : place_in w' k ≡ place x n r k
-  place_now =
-      ap (λ ps. get_or ps k 0) places ∙ get_or-set_same w.places k _ 0 (omega (arith, w.lines))
-      ∙ ap (λ g. g + (size (x k) - 1)) built.gates
+  place_now = get_or-set_same w.places k _ 0 (omega (arith, built.room)) ∙ own_is
 
   place_old : (j : ℕ) → j < k → place_in w' j ≡ place x n r j
-  place_old j h = ap (λ ps. get_or ps j 0) places ∙ get_or-set_other w.places k j _ 0 (λ e. omega arith) ∙ built.places j h
+  place_old j h = get_or-set_other w.places k j _ 0 (λ e. omega arith) ∙ built.places j h
+
+  abbrev low : Lower k (x k)
+  low = sheet k below
 
   pub built_more : Built lines (k + 1) w'
   built_more =
       record {
-        parts_are = after
-            ∙ (λ i. added (place_in w) (built.gates i) (built.variables i) (signs i) (x k) (built.parts_are i))
-            ∙ added_agrees k (place_in w) (place x n r) built.places (first x n r k) (name x n r k) (has x n r k) (x k) (parts_to x n r k) (sheet k below)
-            ∙ ap (parts_to x n r) (sym (add-one k));
-        gates = gates ∙ (λ i. built.gates i + cond (is_used (signs i)) (size (x k)) 0) ∙ ap (first x n r) (sym (add-one k));
-        variables = variables ∙ (λ i. built.variables i + cond (is_used (signs i)) (memory (x k)) 0) ∙ ap (name x n r) (sym (add-one k));
+        gates =
+            (λ i. built.gates i ++ cond (is_used (signs i)) (gates_of (place_in w) (first_is i) (name_is i) (x k)) [])
+            ∙ ap (λ l. joined (gate_lists x n r) k ++ cond (used x n r k) l []) (gates_agree k (place_in w) (place x n r) built.places (first x n r k) (name x n r k) (x k) low)
+            ∙ ap (joined (gate_lists x n r)) (sym (add-one k));
+        variables =
+            (λ i. built.variables i ++ cond (is_used (signs i)) (variables_of (place_in w) (own_is i) (x k)) [])
+            ∙ ap (λ l. joined (variable_lists x n r) k ++ cond (used x n r k) l []) (variables_agree k (place_in w) (place x n r) built.places (place x n r k) (x k) low)
+            ∙ ap (joined (variable_lists x n r)) (sym (add-one k));
+        pairs =
+            (λ i. built.pairs i ++ pairs_of (place_in w) (own_is i) (signs i) (x k))
+            ∙ ap (λ l. joined (pair_lists x n r) k ++ l) (pairs_agree k (place_in w) (place x n r) built.places (place x n r k) (has x n r k) (x k) low)
+            ∙ ap (joined (pair_lists x n r)) (sym (add-one k));
         places = λ j h. elim (below_suc j k (omega arith)) [ inl a ↦ place_old j a | inr e ↦ subst (λ z. place_in w' z ≡ place x n r z) (sym e) place_now ];
-        room = record {
-          gates = omega (arith, built.room.gates, cond_le (is_used (told s)) (size (x k)) 3 (size_le (x k)));
-          variables = omega (arith, built.room.variables, cond_le (is_used (told s)) (memory (x k)) 1 (memory_le (x k)));
-          pairs = omega (arith, built.room.pairs);
-        };
+        room = length-set w.places k _ ∙ built.room;
       }
+
+pub room_of : (lines : List Line) (k : ℕ) (w : Work) → Built lines k w → Room k w
+room_of lines k w built =
+    record {
+      gates = omega (arith, ap length built.gates, gates_most (line lines) (length lines) (rule_of lines) k);
+      variables = omega (arith, ap length built.variables, variables_most (line lines) (length lines) (rule_of lines) k);
+      pairs = omega (arith, ap length built.pairs, pairs_most (line lines) (length lines) (rule_of lines) k);
+    }

@@ -3,7 +3,6 @@ pub mod Signing
 pub mod SignsAgree
 pub mod Numbers
 pub mod Wiring
-pub mod Parts
 pub mod Passing
 pub mod Growing
 pub mod Finishing

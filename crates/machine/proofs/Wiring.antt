@@ -191,16 +191,21 @@ pairs_le p own signs (Since a b) = omega arith
 pairs_le p own signs (WeakSince a b) = omega arith
 
 module _ (x : ℕ → Line) (n r : ℕ) where
-  pub bounded_by : n ≤ 64 → Bounded (translation x n r)
-  bounded_by few =
-      let g : length (joined (gate_lists x n r) n) ≡ total (made_gates x n r) n = joined_length (gate_lists x n r) (gate.Const false) (made_gates x n r) (gate_counts x n r) n in
-      let v : length (joined (variable_lists x n r) n) ≡ total (made_variables x n r) n = joined_length (variable_lists x n r) (variable.Next 0) (made_variables x n r) (variable_counts x n r) n in
-      let p : length (joined (pair_lists x n r) n) ≡ total (made_pairs x n r) n = joined_length (pair_lists x n r) no_pair (made_pairs x n r) (λ _. refl) n in
-      record {
-        gates = omega (arith, total_most (made_gates x n r) 3 (λ k. counted_le (used x n r k) (size (x k)) 3 (size_le (x k))) n);
-        variables = omega (arith, total_most (made_variables x n r) 1 (λ k. counted_le (used x n r k) (memory (x k)) 1 (memory_le (x k))) n);
-        pairs = omega (arith, total_most (made_pairs x n r) 1 (λ k. pairs_le (place x n r) (place x n r k) (has x n r k) (x k)) n);
-      }
+  -- k lines make at most 3 k gates, k variables and k pairs
+  pub gates_most : (k : ℕ) → length (joined (gate_lists x n r) k) ≤ 3 * k
+  gates_most k =
+      omega (arith, joined_length (gate_lists x n r) (gate.Const false) (made_gates x n r) (gate_counts x n r) k, total_most (made_gates x n r) 3 (λ j. counted_le (used x n r j) (size (x j)) 3 (size_le (x j))) k)
+
+  pub variables_most : (k : ℕ) → length (joined (variable_lists x n r) k) ≤ k
+  variables_most k =
+      omega (arith, joined_length (variable_lists x n r) (variable.Next 0) (made_variables x n r) (variable_counts x n r) k, total_most (made_variables x n r) 1 (λ j. counted_le (used x n r j) (memory (x j)) 1 (memory_le (x j))) k)
+
+  pub pairs_most : (k : ℕ) → length (joined (pair_lists x n r) k) ≤ k
+  pairs_most k =
+      omega (arith, joined_length (pair_lists x n r) no_pair (made_pairs x n r) (λ _. refl) k, total_most (made_pairs x n r) 1 (λ j. pairs_le (place x n r) (place x n r j) (has x n r j) (x j)) k)
+
+  bounded_by : n ≤ 64 → Bounded (translation x n r)
+  bounded_by few = record { gates = omega (arith, gates_most n); variables = omega (arith, variables_most n); pairs = omega (arith, pairs_most n) }
 
 pub sound : (lines : List Line) → Sheet lines → 0 < length lines → length lines ≤ 64 → Sound lines
 sound lines sheet some few =

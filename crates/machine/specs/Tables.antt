@@ -1,5 +1,5 @@
 -- A machine as its tables: gates, variables, fairness pairs and the root. And the test that each names what is there.
-use Rattle.std.specs.Prelude.{◌≡◌, ℕ, ◌<◌, ◌≤◌, Bool, true, false, ◌&&◌, List, [], ◌∷◌, length, nat_lt, slice_index_or}
+use Rattle.std.specs.Prelude.{◌≡◌, ℕ, ◌<◌, ◌≤◌, Bool, true, false, ◌&&◌, List, [], ◌∷◌, length, take, nat_lt, slice_index_or}
 use Rattle.machine.specs.declared.gate.Gate.{Gate}
 use Rattle.machine.specs.declared.gate.Gate.TheVariants as gate
 use Rattle.machine.specs.declared.gate.Pair.{Pair}
@@ -33,6 +33,15 @@ gate_fits k v (gate.Not a) = nat_lt a k
 gate_fits k v (gate.And a b) = nat_lt a k && nat_lt b k
 gate_fits k v (gate.Or a b) = nat_lt a k && nat_lt b k
 
+-- the signal that a gate names, if it names one, is below c
+abbrev pub Names : ℕ → Gate → Type 0
+Names c (gate.Const b) = Unit {0}
+Names c (gate.Signal i) = i < c
+Names c (gate.Var j) = Unit {0}
+Names c (gate.Not a) = Unit {0}
+Names c (gate.And a b) = Unit {0}
+Names c (gate.Or a b) = Unit {0}
+
 -- a variable, and a pair, that names gates below k
 abbrev pub variable_fits : ℕ → Variable → Bool
 variable_fits k (variable.Next a) = nat_lt a k
@@ -65,6 +74,14 @@ pub record Bounded (m : Tables) : Type 0 where
   pub gates : length m.gates ≤ 192
   pub variables : length m.variables ≤ 64
   pub pairs : length m.pairs ≤ 64
+
+-- what is known of every machine place
+abbrev pub IsSound : Tables → Type 0
+IsSound m = Wired m × Bounded m
+
+-- the tables that stand in arrays, of which so many rows are there
+abbrev pub counted : List Gate → ℕ → List Variable → ℕ → List Pair → ℕ → ℕ → Tables
+counted gates g variables v pairs p root = record { gates = take g gates; variables = take v variables; pairs = take p pairs; root = root }
 
 -- a new machine: gate 0, constant 0, is its root
 abbrev pub fresh : Tables

@@ -1,3 +1,5 @@
+use meaning::naming::NamesSignal;
+
 /// A gate, read at one position: a bit, a signal, a variable, or an operation on earlier gates.
 #[derive(Clone, Copy, PartialEq, Eq, Debug)]
 pub enum Gate {
@@ -7,6 +9,19 @@ pub enum Gate {
     Not(u8),
     And(u8, u8),
     Or(u8, u8),
+}
+
+impl NamesSignal for Gate {
+    ghost use Rattle.machine.specs.Tables.{Names};
+
+    ghost fits = { Names };
+
+    fn signal(self) -> Option<u8> {
+        match self {
+            Gate::Signal(signal) => Some(signal),
+            _ => None,
+        }
+    }
 }
 
 /// What a state variable equals at position t.

@@ -1,5 +1,5 @@
-ghost use Rattle.std.specs.Prelude.{◌≡◌, ◌<◌, ◌≤◌, length};
-ghost use Rattle.machine.specs.Tables.{GatesFit, VariablesFit, PairsFit};
+ghost use Rattle.std.specs.Prelude.{◌≡◌, ◌≤◌, length};
+ghost use Rattle.machine.specs.Tables.{IsSound, counted};
 
 use crate::gate::{Gate, Pair, Variable};
 
@@ -17,8 +17,5 @@ pub struct Machine {
     pub(crate) root: u8,
     ghost sized: { (length gates ≡ 192) × (length variables ≡ 64) × (length pairs ≡ 64) },
     ghost within: { (gate_count ≤ 192) × (variable_count ≤ 64) × (pair_count ≤ 64) },
-    ghost gates_fit: { GatesFit gate_count variable_count gates },
-    ghost variables_fit: { VariablesFit variable_count gate_count variables },
-    ghost pairs_fit: { PairsFit pair_count gate_count pairs },
-    ghost root_fits: { root < gate_count },
+    ghost sound: { IsSound (counted gates gate_count variables variable_count pairs pair_count root) },
 }

@@ -11,13 +11,10 @@ fn sheet_of(lines: &[(u8, u8, u8)]) -> Result<Sealed, Fail> {
     let mut draft = Draft::new();
     let _ = draft.write(1, 0, 0);
     let _ = draft.write(1, 1, 0);
-    for line in lines {
-        let _ = draft.write(line.0, line.1, line.2);
+    for &(code, left, right) in lines {
+        let _ = draft.write(code, left, right);
     }
-    match draft.seal() {
-        Ok(sealed) => Ok(sealed),
-        Err(_) => Err(Fail::new("no line")),
-    }
+    draft.seal().map_err(|_| Fail::new("no line"))
 }
 
 #[test]

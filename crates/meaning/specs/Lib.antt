@@ -8,3 +8,4 @@ pub mod Judging
 pub mod Cells
 pub mod Depths
 pub mod Columns
+pub mod Naming

@@ -5,8 +5,9 @@ ghost use Rattle.meaning.specs.Verdict.{horizon, steady as steady_from};
 ghost use Rattle.sheet.specs.Sheets.{sealed_lines};
 ghost use Rattle.sheet.specs.Table.{Sheet as IsSheet};
 
+use crate::naming::has_signals;
 use crate::refusal::Refusal;
-use crate::signals::{ask_all, count_back};
+use crate::signals::count_back;
 use recording::recording::Recording;
 use sheet::line::Line;
 use sheet::sealed::Sealed;
@@ -56,7 +57,9 @@ pub(crate) fn extent_of_lines<R: Recording>(
     requires few { length lines.now ≤ 64 }
     ensures { Reaches lines.now (R.Recording.word recording.now) cells result }
 {
-    ask_all(lines, recording)?;
+    if !has_signals(lines, recording) {
+        return Err(Refusal::NoSignal);
+    }
     let extent = reach(lines, recording);
     if cells < lines.len() * extent.samples {
         return Err(Refusal::TooFewCells);

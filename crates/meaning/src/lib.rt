@@ -8,6 +8,7 @@ pub mod evaluator;
 pub mod extent;
 mod forward;
 pub mod laws;
+pub mod naming;
 mod pointwise;
 pub mod refusal;
 mod repeating;

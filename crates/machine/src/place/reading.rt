@@ -1,7 +1,7 @@
 // A new machine, and the tables of any.
 ghost use Rattle.std.specs.Prelude.{◌≡◌};
 ghost use Rattle.machine.specs.Machines.{tables};
-ghost use Rattle.machine.specs.Tables.{Bounded, Wired, fresh};
+ghost use Rattle.machine.specs.Tables.{IsSound, fresh};
 
 use crate::gate::{Gate, Pair, Variable};
 use crate::place::Machine;
@@ -25,7 +25,7 @@ impl Machine {
     /// The gates, by their numbers.
     pub fn gates(&self) -> &[Gate]
         ensures are { result.now ≡ (tables self.now).gates }
-        ensures sound { Wired (tables self.now) × Bounded (tables self.now) }
+        ensures sound { IsSound (tables self.now) }
     {
         &self.gates[0..self.gate_count]
     }
@@ -33,7 +33,7 @@ impl Machine {
     /// The state variables, by their numbers.
     pub fn variables(&self) -> &[Variable]
         ensures are { result.now ≡ (tables self.now).variables }
-        ensures sound { Wired (tables self.now) × Bounded (tables self.now) }
+        ensures sound { IsSound (tables self.now) }
     {
         &self.variables[0..self.variable_count]
     }
@@ -41,7 +41,7 @@ impl Machine {
     /// The fairness pairs.
     pub fn pairs(&self) -> &[Pair]
         ensures are { result.now ≡ (tables self.now).pairs }
-        ensures sound { Wired (tables self.now) × Bounded (tables self.now) }
+        ensures sound { IsSound (tables self.now) }
     {
         &self.pairs[0..self.pair_count]
     }
@@ -49,7 +49,7 @@ impl Machine {
     /// The number of the root gate.
     pub fn root(&self) -> u8
         ensures is { result ≡ (tables self.now).root }
-        ensures sound { Wired (tables self.now) × Bounded (tables self.now) }
+        ensures sound { IsSound (tables self.now) }
     {
         self.root
     }

@@ -1,7 +1,7 @@
 // The downward pass: the rule has plus, and each line hands its signs on.
-ghost use Rattle.std.specs.Prelude.{◌≡◌, ℕ, ◌<◌, ◌≤◌, ◌&&◌, ◌||◌, length, ◌==◌};
+ghost use Rattle.std.specs.Prelude.{◌≡◌, ℕ, ◌<◌, ◌&&◌, ◌||◌, length, ◌==◌};
 ghost use Rattle.sheet.specs.Sheets.{sealed_lines};
-ghost use Rattle.sheet.specs.Table.{line as line_at, Lower, Sheet};
+ghost use Rattle.sheet.specs.Table.{line as line_at, Lower};
 ghost use Rattle.meaning.specs.Sheet.{rule_of};
 ghost use Rattle.machine.specs.Signs.{Sign};
 ghost use Rattle.machine.specs.Translation.{hands, has};
@@ -16,11 +16,7 @@ fn give(signs: &mut [Signs; 64], to: u8, more: Signs)
     requires { to < 64 }
     ensures { (a : ℕ) (s : Sign) → sign_in signs.new a s ≡ (sign_in signs.old a s || (a == to && told more s)) }
 {
-    let had = signs[to as usize];
-    signs[to as usize] = Signs {
-        plus: had.plus | more.plus,
-        minus: had.minus | more.minus,
-    };
+    signs[to as usize] = signs[to as usize] | more;
 }
 
 // A line hands its own signs to its operands; a not turns them.
@@ -30,13 +26,7 @@ fn hand_on(line: Line, own: Signs, signs: &mut [Signs; 64])
 {
     match line {
         Line::Const(_) | Line::Signal(_) => {}
-        Line::Not(a) => {
-            let turned = Signs {
-                plus: own.minus,
-                minus: own.plus,
-            };
-            give(signs, a, turned);
-        }
+        Line::Not(a) => give(signs, a, !own),
         Line::Next(a) | Line::Previous(a) | Line::WeakPrevious(a) => give(signs, a, own),
         Line::And(a, b)
         | Line::Or(a, b)
@@ -50,29 +40,18 @@ fn hand_on(line: Line, own: Signs, signs: &mut [Signs; 64])
     }
 }
 
-// The signs of each line, of which the last is the rule.
-pub(crate) fn signs_of(lines: &[Line]) -> [Signs; 64]
-    requires { (Sheet lines.now) × ((0 < length lines.now) × (length lines.now ≤ 64)) }
-    ensures { (a : ℕ) (s : Sign) → sign_in result a s ≡ has (line_at lines.now) (length lines.now) (rule_of lines.now) a s }
-{
-    let mut signs = [Signs {
-        plus: false,
-        minus: false,
-    }; 64];
-    signs[lines.len() - 1] = Signs {
-        plus: true,
-        minus: false,
-    };
-    for k in (0..lines.len()).rev() {
-        let own = signs[k];
-        hand_on(lines[k], own, &mut signs);
-    }
-    signs
-}
-
 /// The signs of each line of a sealed sheet; past the last there are none.
 pub fn signs_in(sheet: &Sealed) -> [Signs; 64]
     ensures { (a : ℕ) (s : Sign) → sign_in result a s ≡ has (line_at (sealed_lines sheet.now)) (length (sealed_lines sheet.now)) (rule_of (sealed_lines sheet.now)) a s }
 {
-    signs_of(sheet.lines())
+    let lines = sheet.lines();
+    let mut signs = [Signs::default(); 64];
+    signs[lines.len() - 1] = Signs {
+        plus: true,
+        minus: false,
+    };
+    for (k, &line) in lines.iter().enumerate().rev() {
+        hand_on(line, signs[k], &mut signs);
+    }
+    signs
 }

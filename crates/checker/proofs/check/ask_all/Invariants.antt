@@ -1,6 +1,5 @@
 use Rattle.std.proofs.Common.{ℕ, ◌<◌}
-use Rattle.laws.specs.Checks.{Names}
-use Rattle.machine.specs.Tables.{gate_at}
+use Rattle.machine.specs.Tables.{Names, gate_at}
 use Rattle.checker.proofs.check.ask_all.Given as goal
 
 abbrev pub invariant-loop-gate : goal.invariant-loop-gate
