@@ -1,7 +1,7 @@
 -- A gate's bit depends on earlier gates alone.
-use Rattle.std.proofs.Common.{◌≡◌, ℕ, ◌+◌, ◌<◌, Bool, true, false, not, ◌&&◌, ◌||◌, ltb, ◌≢◌, List, length, get_or, set, refl, sym, ap, ◌∙◌, subst, ap₂, arith, get_or-set_other, get_or-set_same}
+use Rattle.std.proofs.Common.{◌≡◌, ℕ, ◌+◌, ◌<◌, Bool, true, false, ◌≢◌, List, length, get_or, set, refl, sym, ◌∙◌, subst, arith, get_or-set_other, get_or-set_same}
 use native.Mathlib.Decide.{dec_lt}
-use Rattle.std.proofs.lemmas.Bool.{ltb-true, and_parts}
+use Rattle.std.proofs.lemmas.Bool.Decides.{nat_tests}
 use Rattle.recording.specs.Kind.{Kind}
 use Rattle.recording.specs.Word.{Word}
 use Rattle.machine.specs.declared.gate.Gate.{Gate}
@@ -18,11 +18,9 @@ module _ (K : Kind) (word : Word K.Value) where
   reads_moves run run' (gate.Const c) j v t fit same g h e b r = r
   reads_moves run run' (gate.Signal i) j v t fit same g h e b r = r
   reads_moves run run' (gate.Var i) j v t fit same g h e b r = r ∙ same i
-  reads_moves run run' (gate.Not a) j v t fit same g h e b r = r ∙ ap not (e a (ltb-true a j fit))
-  reads_moves run run' (gate.And a c) j v t fit same g h e b r =
-      let p = and_parts (ltb a j) (ltb c j) fit in r ∙ ap₂ ◌&&◌ (e a (ltb-true a j p.0)) (e c (ltb-true c j p.1))
-  reads_moves run run' (gate.Or a c) j v t fit same g h e b r =
-      let p = and_parts (ltb a j) (ltb c j) fit in r ∙ ap₂ ◌||◌ (e a (ltb-true a j p.0)) (e c (ltb-true c j p.1))
+  reads_moves run run' (gate.Not a) j v t fit same g h e b r = grind (arith, nat_tests)
+  reads_moves run run' (gate.And a c) j v t fit same g h e b r = grind (arith, nat_tests)
+  reads_moves run run' (gate.Or a c) j v t fit same g h e b r = grind (arith, nat_tests)
 
 module _ (K : Kind) (word : Word K.Value) (run : Bits) where
   -- a gate has one bit

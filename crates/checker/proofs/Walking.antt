@@ -2,6 +2,7 @@
 use Rattle.std.proofs.Common.{◌≡◌, ℕ, zero, suc, ◌+◌, ◌<◌, ◌≤◌, Bool, true, false, cond, not, ◌&&◌, ◌||◌, ltb, leb, List, length, get_or, replicate, Decides, sym, refl, ap, ◌∙◌, subst, ap₂, inl, inr, ◌↔◌, true≢false, not-suc-le-zero, add-one, arith}
 use mathlib.Core.Bool.{false≢true}
 use native.Mathlib.Decide.{dec_lt}
+use Rattle.std.proofs.lemmas.Bool.Decides.{nat_tests}
 use Rattle.std.proofs.lemmas.Bool.{ltb-true, lt-ltb, leb-true, le-leb, and_parts, and_from, or_cases, or_left, or_right}
 use Rattle.recording.specs.Kind.{Kind, TwoValued}
 use Rattle.recording.specs.Tape.{bit}
@@ -59,12 +60,9 @@ module _ (K : Kind) (only : TwoValued K) (m : Tables) (wired : Wired m) (word : 
 -- the same gates' and variables' bits, the same equation and start
 equation_moves : (g h : Bits) (n : ℕ) (q p : ℕ → Bool) (t u t' u' : ℕ) → ((a : ℕ) → a < n → g a t ≡ h a t') → ((a : ℕ) → a < n → g a u ≡ h a u') → q t ≡ p t' → q u ≡ p u'
     → (z : Variable) → variable_fits n z ≡ true → Equation g z q t u → Equation h z p t' u'
-equation_moves g h n q p t u t' u' at_t at_u here next (variable.Next a) fit e = let same = at_u a (ltb-true a n fit) in cc
-equation_moves g h n q p t u t' u' at_t at_u here next (variable.Until a b) fit e =
-    let names = and_parts (ltb a n) (ltb b n) fit in
-    let first = at_t a (ltb-true a n names.0) in
-    let second = at_t b (ltb-true b n names.1) in cc
-equation_moves g h n q p t u t' u' at_t at_u here next (variable.Back a s) fit e = let same = at_t a (ltb-true a n fit) in cc
+equation_moves g h n q p t u t' u' at_t at_u here next (variable.Next a) fit e = grind (arith, nat_tests)
+equation_moves g h n q p t u t' u' at_t at_u here next (variable.Until a b) fit e = grind (arith, nat_tests)
+equation_moves g h n q p t u t' u' at_t at_u here next (variable.Back a s) fit e = grind (arith, nat_tests)
 
 starts_move : (q p : ℕ → Bool) → q 0 ≡ p 0 → (z : Variable) → Starts z q → Starts z p
 starts_move q p same (variable.Next a) h = tt

@@ -1,43 +1,18 @@
 // Checks a run: rows of variable bits, after the last of which comes row back.
-ghost use Rattle.std.specs.Prelude.{◌≡◌, ◌<◌, ◌≤◌, length, Decides, MatchResult};
+ghost use Rattle.std.specs.Prelude.{◌≡◌, ◌<◌, ◌≤◌, length, Decides};
 ghost use Rattle.recording.specs.Tape.{Within};
 ghost use Rattle.checker.specs.CheckAnswer.{Accepted, Answer, Shape};
 ghost use Rattle.laws.specs.Checks.{HasGateSignals};
-ghost use Rattle.checker.specs.declared.refusal.CheckRefusal.TheVariants.{NoSignal};
 ghost use Rattle.machine.specs.Machines.{tables};
-ghost use Rattle.machine.specs.Tables.{Names};
 ghost use Rattle.laws.specs.Runs.{after};
 
 use crate::evaluation::moment_of;
 use crate::refusal::CheckRefusal;
 use crate::steps::{all_keep, all_met, all_start, note_met};
-use machine::gate::Gate;
 use machine::place::Machine;
+use meaning::naming::has_signals;
 use recording::recording::Recording;
 use recording::truth::{Truth, TwoValued};
-
-// Asks the recording for the signal that a gate names; where it has none, that is the refusal.
-fn ask<R: Recording>(gate: Gate, recording: &R) -> Result<(), CheckRefusal>
-    ensures { MatchResult result (λ _. Names (R.word recording.now).signals gate) (λ e. (e ≡ NoSignal) × (Names (R.word recording.now).signals gate → ⊥)) }
-{
-    let Gate::Signal(signal) = gate else {
-        return Ok(());
-    };
-    recording
-        .value(signal as u32, 0)
-        .map(|_| ())
-        .ok_or(CheckRefusal::NoSignal)
-}
-
-// Asks for the signals of all gates.
-fn ask_all<R: Recording>(gates: &[Gate], recording: &R) -> Result<(), CheckRefusal>
-    ensures { MatchResult result (λ _. HasGateSignals gates.now (R.word recording.now).signals) (λ e. (e ≡ NoSignal) × (HasGateSignals gates.now (R.word recording.now).signals → ⊥)) }
-{
-    for gate in gates {
-        ask(*gate, recording)?;
-    }
-    Ok(())
-}
 
 // Whether n rows with row back after the last may be a run on the recording.
 fn has_shape<R: Recording>(recording: &R, n: usize, back: usize) -> bool
@@ -54,7 +29,7 @@ fn no_stray(rows: &[u64], variables: usize) -> bool
     ensures { Decides result (Within variables rows.now) }
 {
     let limit = 1u128 << variables;
-    rows.iter().all(|row| u128::from(*row) < limit)
+    rows.iter().all(|&row| u128::from(row) < limit)
 }
 
 // The row that comes after row i of n.
@@ -108,7 +83,9 @@ where
     R::Truth: TwoValued,
     ensures { Answer R.Truth.Truth.kind R.Truth.Truth.means (tables machine.now) (R.Recording.word recording.now) rows.now back result }
 {
-    ask_all(machine.gates(), recording)?;
+    if !has_signals(machine.gates(), recording) {
+        return Err(CheckRefusal::NoSignal);
+    }
     if !has_shape(recording, rows.len(), back) {
         return Err(CheckRefusal::BadShape);
     }

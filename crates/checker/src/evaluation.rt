@@ -62,8 +62,8 @@ where
 {
     let row = rows[i];
     let mut values = [false; 192];
-    for (k, gate) in machine.gates().iter().enumerate() {
-        values[k] = gate_value(*gate, recording, i as u32, row, &values);
+    for (k, &gate) in machine.gates().iter().enumerate() {
+        values[k] = gate_value(gate, recording, i as u32, row, &values);
     }
     Moment { row, values }
 }

@@ -29,7 +29,7 @@ pub(crate) fn all_start(machine: &Machine, first: &Moment) -> bool
         .variables()
         .iter()
         .enumerate()
-        .all(|(j, variable)| starts(*variable, j, first))
+        .all(|(j, &variable)| starts(variable, j, first))
 }
 
 // Whether variable j keeps its equation from one moment to the next.
@@ -56,7 +56,7 @@ pub(crate) fn all_keep(machine: &Machine, here: &Moment, there: &Moment) -> bool
         .variables()
         .iter()
         .enumerate()
-        .all(|(j, variable)| keeps(*variable, j, here, there))
+        .all(|(j, &variable)| keeps(variable, j, here, there))
 }
 
 // Whether the pair is met at a moment.
@@ -72,8 +72,8 @@ pub(crate) fn note_met(machine: &Machine, here: &Moment, counts: bool, met: &mut
     ensures { (j : ℕ) → j < length (tables machine.now).pairs → slice_index_or met.new j false ≡ (slice_index_or met.old j false || (counts && is_met (pair_at (tables machine.now).pairs j) here.now)) }
 {
     // by index: what a zip over `iter_mut` has written is not known after it
-    for (k, pair) in machine.pairs().iter().enumerate() {
-        met[k] |= counts & meets(*pair, here);
+    for (k, &pair) in machine.pairs().iter().enumerate() {
+        met[k] |= counts & meets(pair, here);
     }
 }
 
@@ -81,5 +81,5 @@ pub(crate) fn note_met(machine: &Machine, here: &Moment, counts: bool, met: &mut
 pub(crate) fn all_met(machine: &Machine, met: &[bool; 64]) -> bool
     ensures { Decides result ((j : ℕ) → j < length (tables machine.now).pairs → slice_index_or met.now j false ≡ true) }
 {
-    met[..machine.pairs().len()].iter().all(|is_met| *is_met)
+    met[..machine.pairs().len()].iter().all(|&is_met| is_met)
 }

@@ -1,9 +1,8 @@
 -- The worked examples, by computing the valuation that every other equals.
-use Rattle.std.proofs.Common.{◌≡◌, ℕ, zero, suc, ◌+◌, ◌≤◌, ◌<◌, true, false, List, length, ◌↔◌, inl, inr, refl, sym, ◌∙◌, subst, add-zero, zero-add, add-suc, suc-add, not-suc-le-zero, lit<, arith}
+use Rattle.std.proofs.Common.{◌≡◌, ℕ, zero, suc, ◌+◌, ◌≤◌, ◌<◌, List, length, ◌↔◌, inl, inr, refl, sym, ◌∙◌, subst, rules, add-zero, zero-add, add-suc, suc-add, not-suc-le-zero, lit<, arith}
 use Rattle.recording.specs.Kind.{Kind, TwoValued}
 use Rattle.recording.specs.Kinds.{two, three}
 use Rattle.recording.specs.Word.{Word}
-use Rattle.recording.specs.declared.truth.Ternary.TheVariants.{Lost, Yes}
 use Rattle.sheet.specs.declared.line.Line.{Line}
 use Rattle.sheet.specs.Table.{line, Lower, Named, Sheet, HasSignals}
 use Rattle.meaning.specs.Logic.{Says}
@@ -58,75 +57,25 @@ module _ (K : Kind) (word : Word K.Value) (lines : List Line) (sheet : IsSheet l
   logic : TwoValued K → (k : ℕ) → k < length lines → (t : ℕ) → Holds K built k t ↔ Says K word built (line lines k) t
   logic tv k hk t = reads_as_logic K tv word lines is_sheet is_named built the_values.valuation k hk t
 
-until_sheet : IsSheet until_rule
-until_sheet = (lit< tt, (lit< tt, ((lit< tt, lit< tt), tt)))
-
-until_named : AllNamed 2 until_rule
-until_named = (lit< tt, (lit< tt, (tt, tt)))
-
-not_sheet : IsSheet not_weak
-not_sheet = (lit< tt, (lit< tt, ((lit< tt, lit< tt), (lit< tt, tt))))
-
-not_named : AllNamed 2 not_weak
-not_named = (lit< tt, (lit< tt, (tt, (tt, tt))))
-
-previous_sheet : IsSheet previous_rule
-previous_sheet = (lit< tt, (lit< tt, tt))
-
-previous_named : AllNamed 2 previous_rule
-previous_named = (lit< tt, (tt, tt))
-
-either_sheet : IsSheet either_way
-either_sheet = (lit< tt, (lit< tt, (lit< tt, ((lit< tt, lit< tt), tt))))
-
-both_sheet : IsSheet both_signs
-both_sheet = (lit< tt, (lit< tt, ((lit< tt, lit< tt), (lit< tt, ((lit< tt, lit< tt), tt)))))
-
-pub until_on_a_tape : On two first_tape until_rule (λ f. (f 2 0 ≡ true) × (f 2 1 ≡ true) × (f 2 2 ≡ false))
-unfolding exists build put row_value until_value always_value
-until_on_a_tape = on two first_tape until_rule until_sheet until_named _ (refl, refl, refl)
-
-pub until_never : On two second_tape until_rule (λ f. f 2 0 ≡ false)
-unfolding exists build put row_value until_value always_value
-until_never = on two second_tape until_rule until_sheet until_named _ refl
-
-pub weak_until_always : On two second_tape weak_rule (λ f. f 2 0 ≡ true)
-unfolding exists build put row_value until_value always_value
-weak_until_always = on two second_tape weak_rule until_sheet until_named _ refl
-
-pub not_weak_is : On two second_tape not_weak (λ f. f 3 0 ≡ false)
-unfolding exists build put row_value until_value always_value
-not_weak_is = on two second_tape not_weak not_sheet not_named _ refl
-
-pub previous_on_a_tape : On two second_tape previous_rule (λ f. (f 1 0 ≡ false) × (f 1 1 ≡ true))
-unfolding exists build put row_value until_value always_value
-previous_on_a_tape = on two second_tape previous_rule previous_sheet previous_named _ (refl, refl)
-
-pub lost_either_way : On three (lost_tape 0 1) either_way (λ f. f 3 0 ≡ Lost)
-unfolding exists build put row_value until_value always_value
-lost_either_way = on three (lost_tape 0 1) either_way either_sheet (lit< tt, (lit< tt, (tt, (tt, tt)))) _ refl
-
-pub until_at_once : On three (lost_tape 2 1) until_rule (λ f. f 2 0 ≡ Yes)
-unfolding exists build put row_value until_value always_value
-until_at_once = on three (lost_tape 2 1) until_rule until_sheet until_named _ refl
-
 module _ (K : Kind) (tv : TwoValued K) where
   not_yes : (p : K.Value) → (p ≡ K.Yes → ⊥) → p ≡ K.No
   not_yes p h = elim (tv.one_of p) [ inl e ↦ e | inr e ↦ absurd (h e) ]
 
   pub both_signs_never : (word : Word K.Value) → 2 ≤ word.signals → On K word both_signs (λ f. f 4 0 ≡ K.No)
   both_signs_never word h =
-      let named : AllNamed word.signals both_signs = (omega arith, (omega arith, (tt, (tt, (tt, tt))))) in
-      let says = logic K word both_signs both_sheet named tv in
-      on K word both_signs both_sheet named (λ f. f 4 0 ≡ K.No)
+      let sheet : IsSheet both_signs = search rules in
+      let named : AllNamed word.signals both_signs = search (rules, arith) in
+      let says = logic K word both_signs sheet named tv in
+      on K word both_signs sheet named (λ f. f 4 0 ≡ K.No)
       (not_yes _ (λ e. let b = (says 4 (lit< tt) 0).0 e in (says 3 (lit< tt) 0).0 b.1 b.0))
 
   pub filled_either_way : (full : Word K.Value) → HasSignals either_way full.signals → Fills K either_way (lost_tape 0 1) full → On K full either_way (λ f. f 3 0 ≡ K.Yes)
   filled_either_way full has fills =
       let some : 0 < full.signals = has 0 (lit< tt) in
       let named : AllNamed full.signals either_way = (some, (some, (tt, (tt, tt)))) in
-      let says = logic K full either_way either_sheet named tv in
-      on K full either_way either_sheet named (λ f. f 3 0 ≡ K.Yes)
+      let sheet : IsSheet either_way = search rules in
+      let says = logic K full either_way sheet named tv in
+      on K full either_way sheet named (λ f. f 3 0 ≡ K.Yes)
       ((says 3 (lit< tt) 0).1
       (elim (tv.one_of (full.at 0 0)) [
         | inl e ↦ inr ((says 2 (lit< tt) 0).1 (λ h. tv.differ (sym e ∙ (says 1 (lit< tt) 0).0 h)))
@@ -134,21 +83,22 @@ module _ (K : Kind) (tv : TwoValued K) where
       ]))
 
   pub worked : WorkedExamples K
+  unfolding exists build put row_value until_value always_value
   worked =
       record {
-        until_on_a_tape = (refl, until_on_a_tape);
-        until_never = until_never;
-        weak_until_always = weak_until_always;
+        until_on_a_tape = (refl, on two first_tape until_rule (search rules) (search rules) _ (refl, refl, refl));
+        until_never = on two second_tape until_rule (search rules) (search rules) _ refl;
+        weak_until_always = on two second_tape weak_rule (search rules) (search rules) _ refl;
         not_weak_pair = refl;
-        not_weak_is = not_weak_is;
+        not_weak_is = on two second_tape not_weak (search rules) (search rules) _ refl;
         not_until_pair = refl;
         next_weak_variables = refl;
         next_weak_root = refl;
         next_weak_pair = refl;
-        previous_on_a_tape = (refl, previous_on_a_tape);
-        lost_either_way = lost_either_way;
+        previous_on_a_tape = (refl, on two second_tape previous_rule (search rules) (search rules) _ (refl, refl));
+        lost_either_way = on three (lost_tape 0 1) either_way (search rules) (search rules) _ refl;
         filled_either_way = filled_either_way;
-        until_at_once = until_at_once;
+        until_at_once = on three (lost_tape 2 1) until_rule (search rules) (search rules) _ refl;
         both_signs_variables = refl;
         both_signs_pairs = refl;
         both_signs_never = both_signs_never;

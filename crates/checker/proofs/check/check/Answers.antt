@@ -1,15 +1,12 @@
-use Rattle.std.proofs.Common.{Err, sym, ap, ◌∙◌, subst}
-use Rattle.std.proofs.lemmas.Result.{err_from_is_err_and}
-use Rattle.checker.specs.CheckAnswer.{Answer}
-use Rattle.laws.specs.Checks.{HasGateSignals}
+use Rattle.std.proofs.Common.{false, subst, sym}
+use Rattle.std.proofs.lemmas.List.Elements.{All-from_get_or}
+use Rattle.std.specs.List.{All}
+use Rattle.machine.specs.declared.gate.Gate.TheVariants.{Const}
 use Rattle.machine.specs.Machines.{tables}
+use Rattle.machine.specs.Tables.{Names}
 use Rattle.checker.proofs.check.check.Goals as goal
 
-pub returns-in_err-ask_all : goal.returns-in_err-ask_all
-returns-in_err-ask_all g c =
-    let w = g.R.Recording.word c.args.recording.now in
-    let p = err_from_is_err_and c.from_residual.result c.from_residual.ensures.1 in
-    let e = c.in_err-ask_all.ensures in
-    subst (Answer g.R.Truth.Truth.kind g.R.Truth.Truth.means (tables c.args.machine.now) w c.args.rows.now c.args.back)
-    (sym (p.1 ∙ ap Err (p.2 ∙ e.0)))
-    (λ h. e.1 (subst (λ gates. HasGateSignals gates w.signals) (sym c.gates.ensures.are) h))
+pub returns-then-not-has_signals : goal.returns-then-not-has_signals
+returns-then-not-has_signals g c named =
+    let has = Names (g.R.Recording.word c.args.recording.now).signals in
+    let all = c.has_signals.ensures.1 (subst (All has) (sym c.gates.ensures.are) (All-from_get_or has (tables c.args.machine.now).gates (Const false) named)) in cc

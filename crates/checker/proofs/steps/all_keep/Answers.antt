@@ -1,22 +1,19 @@
-use Rattle.std.proofs.Common.{◌≡◌, ℕ, ◌≤◌, true, ltb, subst, sym, length, arith}
+use Rattle.std.proofs.Common.{◌≡◌, ℕ, ◌≤◌, true, subst, sym, length, arith}
 use Rattle.machine.specs.Machines.{tables}
 use Rattle.machine.specs.Tables.{variable_at, variable_fits}
 use Rattle.std.proofs.iter.Serving.{serving}
 use Rattle.machine.specs.declared.gate.Variable.{Variable}
 use Rattle.machine.specs.declared.gate.Variable.TheVariants as variable
-use Rattle.std.proofs.lemmas.Bool.{ltb-true, lt-ltb, and_parts, and_from}
+use Rattle.std.proofs.lemmas.Bool.Decides.{nat_tests}
 use Rattle.std.specs.List.{All}
 use Rattle.std.proofs.lemmas.List.Elements.{All-from_get_or}
 use Rattle.checker.proofs.steps.all_keep.Goals as goal
 
-higher : (a g h : ℕ) → g ≤ h → ltb a g ≡ true → ltb a h ≡ true
-higher a g h le e = lt-ltb a h (let l = ltb-true a g e in omega arith)
-
 -- what names gates below g names gates below h
 wider : (g h : ℕ) → g ≤ h → (z : Variable) → variable_fits g z ≡ true → variable_fits h z ≡ true
-wider g h le (variable.Next a) e = higher a g h le e
-wider g h le (variable.Until a b) e = let p = and_parts (ltb a g) (ltb b g) e in and_from (ltb a h) (ltb b h) (higher a g h le p.0) (higher b g h le p.1)
-wider g h le (variable.Back a s) e = higher a g h le e
+wider g h le (variable.Next a) e = grind (arith, nat_tests)
+wider g h le (variable.Until a b) e = grind (arith, nat_tests)
+wider g h le (variable.Back a s) e = grind (arith, nat_tests)
 
 pub all-requires-clause-callable : goal.all-requires-clause-callable
 all-requires-clause-callable c =
