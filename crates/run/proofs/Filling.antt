@@ -1,5 +1,5 @@
 -- Rows are filled line by line, sample by sample.
-use Rattle.std.proofs.Common.{◌≡◌, ℕ, ◌+◌, ◌-◌, ◌^◌, ◌<◌, ◌≤◌, Bool, true, false, cond, ◌||◌, ◌↔◌, List, ◌++◌, length, take, drop, get_or, set, sym, refl, ap, ◌∙◌, subst, ap₂, inl, inr, add-zero, add-one, arith, get_or-set_other, get_or-set_same}
+use Rattle.std.proofs.Common.{◌≡◌, ℕ, ◌+◌, ◌-◌, ◌^◌, ◌<◌, ◌≤◌, Bool, true, false, cond, ◌||◌, ◌↔◌, List, ◌++◌, length, take, drop, get_or, set, sym, refl, ap, ◌∙◌, subst, ap₂, add-zero, add-one, arith, get_or-set_other, get_or-set_same, below_more}
 use Rattle.std.proofs.lemmas.List.{length-take-le, get_or-append_right, get_or-drop}
 use Rattle.std.proofs.Math.ListN.{get_or-append}
 use Rattle.recording.specs.Kind.{Kind}
@@ -13,9 +13,9 @@ use Rattle.machine.specs.Signs.{plus, minus}
 use Rattle.machine.specs.Translation.{used, memory, made_variables}
 use Rattle.machine.specs.Working.{told, unsigned}
 use Rattle.machine.specs.Working.{is_used as told_to_be_used}
-use Rattle.machine.proofs.Joins.{below_suc, total_le}
+use Rattle.machine.proofs.Joins.{total_le}
 use Rattle.run.specs.Packing.{SignsOf, names, in_cells, Packed, RowsPacked}
-use Rattle.run.proofs.RowBits.{below_more, bit_here, bit_lower}
+use Rattle.run.proofs.RowBits.{below_next, bit_here, bit_lower}
 
 none : (u : Bool) (n : ℕ) → n ≡ 0 → cond u n 0 ≡ 0
 none true n e = e
@@ -54,20 +54,16 @@ module _ (lines : List Line) where
       packed_more b own tells =
           let small : row < 2 ^ name = subst (λ n. row < 2 ^ n) (sym named) packed.below in (
             record {
-              shows = λ d j hj u one.
-                  elim (below_suc j k (subst (λ n. j < n) (add-one k) hj)) [
-                    | inl a ↦
-                        let lower : names lines j < name =
-                        omega (arith, total_le own_variables j k a, ap₂ (λ v n. cond v n 0) u one, named) in
-                        subst (λ q. (q ≡ true) ↔ (shown K (line lines j) (in_cells K means lines cells d j) t ≡ K.Yes))
-                        (sym (bit_lower name row (names lines j) b lower)) (packed.shows d j a u one)
-                    | inr e ↦
-                        subst (λ i. (bit (row + cond b (2 ^ name) 0) (names lines i) ≡ true) ↔ (shown K (line lines i) (in_cells K means lines cells d i) t ≡ K.Yes))
-                        (sym e)
-                        (subst (λ q. (q ≡ true) ↔ (shown K (line lines k) (in_cells K means lines cells d k) t ≡ K.Yes))
-                        (sym (ap (bit (row + cond b (2 ^ name) 0)) (sym named) ∙ bit_here name row b small)) (tells d))
-                  ];
-              below = subst (λ n. row + cond b (2 ^ name) 0 < 2 ^ n) (next 1 own) (below_more name row b small);
+              shows = λ d.
+                  below_more _ k
+                  (λ j a u one.
+                  let lower : names lines j < name = omega (arith, total_le own_variables j k a, ap₂ (λ v n. cond v n 0) u one, named) in
+                  subst (λ q. (q ≡ true) ↔ (shown K (line lines j) (in_cells K means lines cells d j) t ≡ K.Yes))
+                  (sym (bit_lower name row (names lines j) b lower)) (packed.shows d j a u one))
+                  (λ u one.
+                  subst (λ q. (q ≡ true) ↔ (shown K (line lines k) (in_cells K means lines cells d k) t ≡ K.Yes))
+                  (sym (ap (bit (row + cond b (2 ^ name) 0)) (sym named) ∙ bit_here name row b small)) (tells d));
+              below = subst (λ n. row + cond b (2 ^ name) 0 < 2 ^ n) (next 1 own) (below_next name row b small);
             },
             next 1 own,
           )
@@ -77,11 +73,7 @@ module _ (lines : List Line) where
       packed_same own =
           let same : name ≡ names lines (k + 1) = sym (add-zero name) ∙ next 0 own in (
             record {
-              shows = λ d j hj u one.
-                  elim (below_suc j k (subst (λ n. j < n) (add-one k) hj)) [
-                    | inl a ↦ packed.shows d j a u one
-                    | inr e ↦ absurd (omega (arith, own, ap own_variables e, ap₂ (λ v n. cond v n 0) u one))
-                  ];
+              shows = λ d. below_more _ k (packed.shows d) (λ u one. absurd (omega (arith, own, ap₂ (λ v n. cond v n 0) u one)));
               below = subst (λ n. row < 2 ^ n) (sym named ∙ same) packed.below;
             },
             same,
@@ -93,12 +85,10 @@ module _ (K : Kind) {V : Type 0} (means : V → K.Value) (lines : List Line) (ce
       → RowsPacked K means lines cells before (set rows t row) (t + 1)
   rows_more t row inside so_far here =
       record {
-        rows = λ s hs.
-            elim (below_suc s t (subst (λ n. s < n) (add-one t) hs)) [
-              | inl a ↦ subst (Packed K means lines cells (length lines) s) (sym (get_or-set_other rows t s row 0 (λ e. omega arith))) (so_far.rows s a)
-              | inr e ↦ subst (λ i. Packed K means lines cells (length lines) i (get_or (set rows t row) i 0)) (sym e)
-                  (subst (Packed K means lines cells (length lines) t) (sym (get_or-set_same rows t row 0 inside)) here)
-            ];
+        rows =
+            below_more _ t
+            (λ s a. subst (Packed K means lines cells (length lines) s) (sym (get_or-set_other rows t s row 0 (λ e. omega arith))) (so_far.rows s a))
+            (subst (Packed K means lines cells (length lines) t) (sym (get_or-set_same rows t row 0 inside)) here);
         further = λ s hs. get_or-set_other rows t s row 0 (λ e. omega arith) ∙ so_far.further s (omega arith);
       }
 
