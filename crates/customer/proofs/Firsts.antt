@@ -47,6 +47,4 @@ module _ {V W : Type 0} (h : Heard V) (b : Heard W) where
   pub first_of : (l : Ledger) → l ≡ start → (s u : Lent V W) (room : ℕ) (zs : List (Answer V W)) → Story h b l s (take room three_calls) (take 3 zs) u → 3 ≤ room
       → ToldFirst h s.cells (get_or zs 2 Done)
   first_of l new s u room zs st r =
-      subst (λ (a : Answer V W). ToldFirst h s.cells a) (get_or-take 3 zs 2 Done (omega arith))
-      (third s u (take 3 zs)
-      (subst (λ (m : Ledger). Story h b m s three_calls (take 3 zs) u) new (subst (λ (cs : List Call). Story h b l s cs (take 3 zs) u) (take_all room three_calls r) st)))
+      rw (← get_or-take 3 zs 2 Done (omega arith)) (third s u (take 3 zs) (rw (take_all room three_calls r, new) at st))

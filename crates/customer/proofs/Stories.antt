@@ -27,13 +27,7 @@ module _ {V W : Type 0} (h : Heard V) (b : Heard W) where
       → (t : Lent V W) × (t' : Lent V W) × Tells h b n.form n c a t t'
   unfolding after
   told_at l s u cs zs m n c a k st ec el ea =
-      let w = story_at l s u cs zs m k st in (
-        w.0,
-        w.1,
-        subst (λ (x : Answer V W). Tells h b n.form n c x w.0 w.1) ea
-            (subst (λ (x : Call). Tells h b n.form n x (get_or zs m NoRecording) w.0 w.1) ec
-            (subst (λ (x : Ledger). Tells h b x.form x (get_or cs m Strike) (get_or zs m NoRecording) w.0 w.1) el w.2)),
-      )
+      let w = story_at l s u cs zs m k st in (w.0, w.1, rw (← el, ← ec, ← ea) w.2)
 
   -- the last call
   story_last : (l : Ledger) (s u : Lent V W) (cs : List Call) (zs : List (Answer V W)) (n : ℕ) → suc n ≡ length cs → Story h b l s cs zs u
@@ -49,8 +43,4 @@ module _ {V W : Type 0} (h : Heard V) (b : Heard W) where
       → Story h b l s cs zs u → get_or cs n Strike ≡ c → after l (take n cs) ≡ m → (t : Lent V W) × Tells h b m.form m c (get_or zs n NoRecording) t u
   unfolding after
   told_last l s u cs zs n m c k st ec el =
-      let w = story_last l s u cs zs n k st in (
-        w.0,
-        subst (λ (x : Call). Tells h b m.form m x (get_or zs n NoRecording) w.0 u) ec
-            (subst (λ (x : Ledger). Tells h b x.form x (get_or cs n Strike) (get_or zs n NoRecording) w.0 u) el w.1),
-      )
+      let w = story_last l s u cs zs n k st in (w.0, rw (← el, ← ec) w.1)

@@ -1,8 +1,7 @@
 -- Rows are filled line by line, sample by sample.
-use Rattle.std.proofs.Common.{◌≡◌, ℕ, ◌+◌, ◌-◌, ◌^◌, ◌<◌, ◌≤◌, Bool, true, false, cond, ◌&&◌, ◌||◌, ◌↔◌, List, ◌++◌, length, take, drop, get_or, set, sym, refl, ap, ◌∙◌, subst, ap₂, inl, inr, true≢false, add-zero, add-one, arith, get_or-set_other, get_or-set_same}
+use Rattle.std.proofs.Common.{◌≡◌, ℕ, ◌+◌, ◌-◌, ◌^◌, ◌<◌, ◌≤◌, Bool, true, false, cond, ◌||◌, ◌↔◌, List, ◌++◌, length, take, drop, get_or, set, sym, refl, ap, ◌∙◌, subst, ap₂, add-zero, add-one, arith, get_or-set_other, get_or-set_same, below_more}
 use Rattle.std.proofs.lemmas.List.{length-take-le, get_or-append_right, get_or-drop}
 use Rattle.std.proofs.Math.ListN.{get_or-append}
-use mathlib.Core.Bool.{false≢true}
 use Rattle.recording.specs.Kind.{Kind}
 use Rattle.recording.specs.Tape.{bit}
 use Rattle.sheet.specs.declared.line.Line.{Line}
@@ -12,79 +11,72 @@ use Rattle.machine.specs.declared.signs.Signs.{Signs}
 use Rattle.laws.specs.Laws.{shown}
 use Rattle.machine.specs.Signs.{plus, minus}
 use Rattle.machine.specs.Translation.{used, memory, made_variables}
-use Rattle.machine.specs.Working.{unsigned}
-use Rattle.machine.proofs.Joins.{below_suc, total_le}
+use Rattle.machine.specs.Working.{told, unsigned}
+use Rattle.machine.specs.Working.{is_used as told_to_be_used}
+use Rattle.machine.proofs.Joins.{total_le}
 use Rattle.run.specs.Packing.{SignsOf, names, in_cells, Packed, RowsPacked}
-use Rattle.run.proofs.RowBits.{below_more, bit_here, bit_lower}
+use Rattle.run.proofs.RowBits.{below_next, bit_here, bit_lower}
 
--- a used line with a variable counts one, any other none
-both : (u m : Bool) (n : ℕ) → cond m 1 0 ≡ n → (u && m) ≡ true → (u ≡ true) × (n ≡ 1)
-both true true n e h = (refl, sym e)
-both true false n e h = absurd (false≢true h)
-both false m n e h = absurd (false≢true h)
+none : (u : Bool) (n : ℕ) → n ≡ 0 → cond u n 0 ≡ 0
+none true n e = e
+none false n e = refl
 
-not_both : (u m : Bool) (n : ℕ) → cond m 1 0 ≡ n → (u && m) ≡ false → (cond u n 0 ≡ 0) × (u ≡ true → n ≡ 1 → ⊥)
-not_both true true n e h = absurd (true≢false h)
-not_both true false n e h = (sym e, λ _ one. omega arith)
-not_both false m n e h = (refl, λ t _. false≢true t)
-
-module _ (lines : List Line) (signs : List Signs) (signed : SignsOf lines signs) where
+module _ (lines : List Line) where
   abbrev is_used : ℕ → Bool
   is_used k = used (line lines) (length lines) (rule_of lines) k
 
+  -- the variables of line k
+  abbrev pub own_variables : ℕ → ℕ
+  own_variables k = made_variables (line lines) (length lines) (rule_of lines) k
+
   -- the signs tell which lines are used
-  told_used : (k : ℕ) → ((get_or signs k unsigned).plus || (get_or signs k unsigned).minus) ≡ is_used k
-  told_used k = ap₂ ◌||◌ (signed k plus) (signed k minus)
+  pub told_used : (signs : List Signs) → SignsOf lines signs → (k : ℕ) (b : Bool) → b ≡ told_to_be_used (told (get_or signs k unsigned)) → b ≡ is_used k
+  told_used signs signed k b e = e ∙ ap₂ ◌||◌ (signed k plus) (signed k minus)
+
+  -- a used line with a variable has one, any other none
+  pub own_one : (k : ℕ) (u m : Bool) → u ≡ is_used k → cond m 1 0 ≡ memory (line lines k) → u ≡ true → m ≡ true → own_variables k ≡ 1
+  own_one k u m used has e f = ap₂ (λ (v : Bool) (n : ℕ). cond v n 0) (sym used ∙ e) (sym has ∙ ap (λ (v : Bool). cond v 1 0) f)
+
+  pub unused_none : (k : ℕ) (u : Bool) → u ≡ is_used k → u ≡ false → own_variables k ≡ 0
+  unused_none k u used e = ap (λ (v : Bool). cond v (memory (line lines k)) 0) (sym used ∙ e)
+
+  pub own_none : (k : ℕ) (m : Bool) → cond m 1 0 ≡ memory (line lines k) → m ≡ false → own_variables k ≡ 0
+  own_none k m has e = none (is_used k) (memory (line lines k)) (sym has ∙ ap (λ (v : Bool). cond v 1 0) e)
 
   module _ (K : Kind) {V : Type 0} (means : V → K.Value) (cells : List V) where
-    pub packed_none : (t : ℕ) → Packed K means lines cells 0 t 0
-    packed_none t = record { shows = λ d k h. absurd (omega arith); below = omega arith }
-
-    module _ (k t row name : ℕ) (named : name ≡ names lines k) (packed : Packed K means lines cells k t row) (m : Bool) (has : cond m 1 0 ≡ memory (line lines k)) where
-      abbrev test : Bool
-      test = ((get_or signs k unsigned).plus || (get_or signs k unsigned).minus) && m
+    module _ (k t row name : ℕ) (named : name ≡ names lines k) (packed : Packed K means lines cells k t row) where
+      next : (n : ℕ) → own_variables k ≡ n → name + n ≡ names lines (k + 1)
+      next n own = ap₂ ◌+◌ named (sym own) ∙ ap (names lines) (sym (add-one k))
 
       -- line k has a variable
-      pub packed_more : (b : Bool) → test ≡ true → ((d : V) → (b ≡ true) ↔ (shown K (line lines k) (in_cells K means lines cells d k) t ≡ K.Yes))
+      pub packed_more : (b : Bool) → own_variables k ≡ 1 → ((d : V) → (b ≡ true) ↔ (shown K (line lines k) (in_cells K means lines cells d k) t ≡ K.Yes))
           → Packed K means lines cells (k + 1) t (row + cond b (2 ^ name) 0) × (name + 1 ≡ names lines (k + 1))
-      packed_more b is tells =
-          let w = both (is_used k) m (memory (line lines k)) has (ap (λ u. u && m) (sym (told_used k)) ∙ is) in
-          let count : made_variables (line lines) (length lines) (rule_of lines) k ≡ 1 = ap₂ (λ u n. cond u n 0) w.0 w.1 in
-          let next : name + 1 ≡ names lines (k + 1) = ap₂ ◌+◌ named (sym count) ∙ ap (names lines) (sym (add-one k)) in
+      packed_more b own tells =
           let small : row < 2 ^ name = subst (λ n. row < 2 ^ n) (sym named) packed.below in (
             record {
-              shows = λ d j hj u one.
-                  elim (below_suc j k (subst (λ n. j < n) (add-one k) hj)) [
-                    | inl a ↦
-                        let lower : names lines j < name =
-                        omega (arith, total_le (made_variables (line lines) (length lines) (rule_of lines)) j k a, ap₂ (λ v n. cond v n 0) u one, named) in
-                        subst (λ q. (q ≡ true) ↔ (shown K (line lines j) (in_cells K means lines cells d j) t ≡ K.Yes))
-                        (sym (bit_lower name row (names lines j) b lower)) (packed.shows d j a u one)
-                    | inr e ↦
-                        subst (λ i. (bit (row + cond b (2 ^ name) 0) (names lines i) ≡ true) ↔ (shown K (line lines i) (in_cells K means lines cells d i) t ≡ K.Yes))
-                        (sym e)
-                        (subst (λ q. (q ≡ true) ↔ (shown K (line lines k) (in_cells K means lines cells d k) t ≡ K.Yes))
-                        (sym (ap (bit (row + cond b (2 ^ name) 0)) (sym named) ∙ bit_here name row b small)) (tells d))
-                  ];
-              below = subst (λ n. row + cond b (2 ^ name) 0 < 2 ^ n) next (below_more name row b small);
+              shows = λ d.
+                  below_more _ k
+                  (λ j a u one.
+                  let lower : names lines j < name = omega (arith, total_le own_variables j k a, ap₂ (λ v n. cond v n 0) u one, named) in
+                  subst (λ q. (q ≡ true) ↔ (shown K (line lines j) (in_cells K means lines cells d j) t ≡ K.Yes))
+                  (sym (bit_lower name row (names lines j) b lower)) (packed.shows d j a u one))
+                  (λ u one.
+                  subst (λ q. (q ≡ true) ↔ (shown K (line lines k) (in_cells K means lines cells d k) t ≡ K.Yes))
+                  (sym (ap (bit (row + cond b (2 ^ name) 0)) (sym named) ∙ bit_here name row b small)) (tells d));
+              below = subst (λ n. row + cond b (2 ^ name) 0 < 2 ^ n) (next 1 own) (below_next name row b small);
             },
-            next,
+            next 1 own,
           )
 
       -- line k has none
-      pub packed_same : test ≡ false → Packed K means lines cells (k + 1) t row × (name ≡ names lines (k + 1))
-      packed_same isnt =
-          let w = not_both (is_used k) m (memory (line lines k)) has (ap (λ u. u && m) (sym (told_used k)) ∙ isnt) in
-          let next : name ≡ names lines (k + 1) = named ∙ sym (add-zero (names lines k)) ∙ ap (names lines k +◌) (sym w.0) ∙ ap (names lines) (sym (add-one k)) in (
+      pub packed_same : own_variables k ≡ 0 → Packed K means lines cells (k + 1) t row × (name ≡ names lines (k + 1))
+      packed_same own =
+          let same : name ≡ names lines (k + 1) = sym (add-zero name) ∙ next 0 own in (
             record {
-              shows = λ d j hj u one.
-                  elim (below_suc j k (subst (λ n. j < n) (add-one k) hj)) [
-                    | inl a ↦ packed.shows d j a u one
-                    | inr e ↦ absurd (w.1 (ap is_used (sym e) ∙ u) (ap (λ i. memory (line lines i)) (sym e) ∙ one))
-                  ];
-              below = subst (λ n. row < 2 ^ n) (sym named ∙ next) packed.below;
+              shows = λ d. below_more _ k (packed.shows d) (λ u one. absurd (omega (arith, own, ap₂ (λ v n. cond v n 0) u one)));
+              below = subst (λ n. row < 2 ^ n) (sym named ∙ same) packed.below;
             },
-            next,
+            same,
           )
 
 -- one row further
@@ -93,12 +85,10 @@ module _ (K : Kind) {V : Type 0} (means : V → K.Value) (lines : List Line) (ce
       → RowsPacked K means lines cells before (set rows t row) (t + 1)
   rows_more t row inside so_far here =
       record {
-        rows = λ s hs.
-            elim (below_suc s t (subst (λ n. s < n) (add-one t) hs)) [
-              | inl a ↦ subst (Packed K means lines cells (length lines) s) (sym (get_or-set_other rows t s row 0 (λ e. omega arith))) (so_far.rows s a)
-              | inr e ↦ subst (λ i. Packed K means lines cells (length lines) i (get_or (set rows t row) i 0)) (sym e)
-                  (subst (Packed K means lines cells (length lines) t) (sym (get_or-set_same rows t row 0 inside)) here)
-            ];
+        rows =
+            below_more _ t
+            (λ s a. subst (Packed K means lines cells (length lines) s) (sym (get_or-set_other rows t s row 0 (λ e. omega arith))) (so_far.rows s a))
+            (subst (Packed K means lines cells (length lines) t) (sym (get_or-set_same rows t row 0 inside)) here);
         further = λ s hs. get_or-set_other rows t s row 0 (λ e. omega arith) ∙ so_far.further s (omega arith);
       }
 

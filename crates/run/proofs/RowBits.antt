@@ -10,9 +10,9 @@ or_top row place inside small =
     ap (bit_or row) (one_shl place 64 inside ∙ sym (one-mul (2 ^ place))) ∙ or_comm row (1 * 2 ^ place)
     ∙ or_shifted 1 place row small ∙ omega (arith, one-mul (2 ^ place))
 
-pub below_more : (n row : ℕ) (b : Bool) → row < 2 ^ n → row + cond b (2 ^ n) 0 < 2 ^ (n + 1)
-below_more n row true small = omega (arith, pow-add 2 n 1)
-below_more n row false small = omega (arith, pow-add 2 n 1)
+pub below_next : (n row : ℕ) (b : Bool) → row < 2 ^ n → row + cond b (2 ^ n) 0 < 2 ^ (n + 1)
+below_next n row true small = omega (arith, pow-add 2 n 1)
+below_next n row false small = omega (arith, pow-add 2 n 1)
 
 -- the bit is there
 pub bit_here : (n row : ℕ) (b : Bool) → row < 2 ^ n → bit (row + cond b (2 ^ n) 0) n ≡ b

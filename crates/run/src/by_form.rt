@@ -56,7 +56,8 @@ pub(crate) fn on_draft<V, W>(mut draft: Draft, call: Call) -> Stepped<V, W>
     }
 }
 
-// Judges the sheet on the recording of this number, whatever else is lent.
+// Judges the sheet on the recording of this number, whatever else is lent. It and the next are two functions: a closure
+// whose result names a type that neither its captures nor its arguments name cannot be passed to one.
 fn judge_number<R: Recording, W>(
     sheet: &Sealed,
     number: usize,

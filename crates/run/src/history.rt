@@ -40,6 +40,7 @@ where
 {
     // the question's contract: the kind has no third value
     let _ = B::Truth::no().is_yes();
+    // no zip of the two: nothing is known of what a zip with `iter_mut` writes
     for (i, answer) in answers.iter_mut().enumerate() {
         let Some(call) = calls.get(i) else {
             break;

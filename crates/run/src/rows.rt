@@ -54,10 +54,9 @@ fn row_at<T: TwoValued>(lines: &[Line], signs: &[Signs; 64], cells: &[T], sample
 {
     let mut row = 0;
     let mut name = 0;
-    for (k, line) in lines.iter().enumerate() {
-        let own = signs[k];
-        if (own.plus | own.minus) & has_variable(*line) {
-            let value = shown_at(cells, lines.len(), k, *line, sample);
+    for (k, &line) in lines.iter().enumerate() {
+        if signs[k].is_used() && has_variable(line) {
+            let value = shown_at(cells, lines.len(), k, line, sample);
             row = with_bit(row, name, value.is_yes());
             name += 1;
         }

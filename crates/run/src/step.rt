@@ -20,6 +20,8 @@ pub struct Stepped<V, W> {
     pub answer: Answer<V, W>,
 }
 
+// What is lent comes as parameters: of a struct with `&mut` fields each contract would also have to say that every field
+// keeps its reference.
 /// Makes one call on a sheet, where its form has it. The sheet changes as its ledger does; the call answers, and leaves
 /// of all that is lent, what `Tells` says; and the law holds while the sheet is sealed.
 pub fn perform<R: Recording, B: Recording>(
