@@ -14,6 +14,10 @@ abbrev pub Wrote : List Line → List Line → List Line → ℕ → Result ℕ 
 Wrote before after own at (Ok n) = (after ≡ before ++ own) × (n + 1 ≡ length after) × (n < 64)
 Wrote before after own at (Err f) = (f ≡ OfSheet Full at) × (64 < length (before ++ own))
 
+abbrev pub ByteAt : List ℕ → ℕ → Result ℕ Fault → Type 0
+ByteAt text p (Ok b) = Stands text p b
+ByteAt text p (Err f) = (f ≡ Early p) × (p ≡ length text)
+
 -- the text ends at p, or its byte there is none of those that may stand
 abbrev pub Missing : List ℕ → ℕ → Type 0 → Fault → Type 0
 Missing text p Other f = ((f ≡ Early p) × (p ≡ length text)) ⊎ ((f ≡ Byte p) × (p < length text) × Other)

@@ -4,7 +4,7 @@ ghost use Rattle.sheet.specs.Sheets.{lines_of};
 ghost use Rattle.text.specs.Guards.{Onward, held};
 ghost use Rattle.lexer.specs.Names.{Good, known, line_of};
 ghost use Rattle.text.specs.Reading.{FullAlone, Read, Stands, Unambiguous, Verdict};
-ghost use Rattle.text.specs.Steps.{CloseAt, InfixAt, Outcome};
+ghost use Rattle.text.specs.Steps.{ByteAt, CloseAt, InfixAt, Outcome};
 
 use crate::fault::Fault;
 use crate::pending::Pending;
@@ -27,18 +27,20 @@ struct Done {
     end: usize,
 }
 
+// The byte at `at`.
+fn byte_at(text: &[u8], at: usize) -> Result<char, Fault>
+    requires { at ≤ length text.now }
+    ensures { ByteAt text.now at result }
+{
+    Ok(*text.get(at).ok_or(Fault::Early { at })? as char)
+}
+
 // The sign of a pair at `at`.
 fn infix_at(text: &[u8], at: usize) -> Result<Infix, Fault>
     requires { at ≤ length text.now }
     ensures { InfixAt text.now at result }
 {
-    if at >= text.len() {
-        return Err(Fault::Early { at });
-    }
-    match Infix::from_sign(text[at] as char) {
-        Some(operator) => Ok(operator),
-        None => Err(Fault::Byte { at }),
-    }
+    Infix::from_sign(byte_at(text, at)?).ok_or(Fault::Byte { at })
 }
 
 // The close bracket at `at`.
@@ -46,10 +48,7 @@ fn close_at(text: &[u8], at: usize) -> Result<(), Fault>
     requires { at ≤ length text.now }
     ensures { CloseAt text.now at result }
 {
-    if at >= text.len() {
-        return Err(Fault::Early { at });
-    }
-    match text[at] as char {
+    match byte_at(text, at)? {
         ')' => Ok(()),
         _ => Err(Fault::Byte { at }),
     }

@@ -48,18 +48,18 @@ impl Pending<'_> {
             Prefix::Next => self.put(at, Line::Next(operand)),
             Prefix::Previous => self.put(at, Line::Previous(operand)),
             Prefix::WeakPrevious => self.put(at, Line::WeakPrevious(operand)),
-            Prefix::Finally => {
-                self.put_two(at, Line::Const(true), |yes| Line::Until(yes, operand))
-            },
-            Prefix::Globally => {
-                self.put_two(at, Line::Const(false), |no| Line::WeakUntil(operand, no))
-            },
-            Prefix::Once => {
-                self.put_two(at, Line::Const(true), |yes| Line::Since(yes, operand))
-            },
-            Prefix::Historically => {
-                self.put_two(at, Line::Const(false), |no| Line::WeakSince(operand, no))
-            },
+            Prefix::Finally => self.put_two(at, Line::Const(true), |yes| Line::Until(yes, operand)),
+            Prefix::Globally => self.put_two(
+                at,
+                Line::Const(false),
+                |no| Line::WeakUntil(operand, no),
+            ),
+            Prefix::Once => self.put_two(at, Line::Const(true), |yes| Line::Since(yes, operand)),
+            Prefix::Historically => self.put_two(
+                at,
+                Line::Const(false),
+                |no| Line::WeakSince(operand, no),
+            ),
         }
     }
 
@@ -79,7 +79,7 @@ impl Pending<'_> {
         match operator {
             Infix::And => self.put(at, Line::And(left, right)),
             Infix::Or => self.put(at, Line::Or(left, right)),
-            Infix::Implies => { self.put_two(at, Line::Not(left), |not| Line::Or(not, right)) },
+            Infix::Implies => self.put_two(at, Line::Not(left), |not| Line::Or(not, right)),
             Infix::Until => self.put(at, Line::Until(left, right)),
             Infix::WeakUntil => self.put(at, Line::WeakUntil(left, right)),
             Infix::Since => self.put(at, Line::Since(left, right)),
