@@ -8,12 +8,11 @@ use Rattle.lexer.proofs.Naming.{few as few_names}
 use Rattle.text.proofs.Steps.{few, grown_none, grown_length, whole_grown, whole_then}
 use Rattle.text.proofs.reader.Source.+pair_unit.Goals as goal
 
-pub pair-put_infix-requires : goal.pair-put_infix-requires
-pair-put_infix-requires t c =
+pub pair-put_infix-requires-clause-left : goal.pair-put_infix-requires-clause-left
+pair-put_infix-requires-clause-left t c =
     let l = c.in_ok-left.ensures.1.line in
-    let r = c.in_ok-right.ensures.1.line in
     let g = grown_length _ _ (whole_grown _ _ _ _ _ _ _ _ c.in_ok-right.ensures.1) in
-    record { left = omega (arith, l, g); right = omega (arith, r) }
+    omega (arith, l, g)
 
 pub pair-returns-then-level-ge-DEEPEST : goal.pair-returns-then-level-ge-DEEPEST
 pair-returns-then-level-ge-DEEPEST t c = (deep_pair c.requires.start (omega arith), grown_none _)
