@@ -49,7 +49,7 @@ pub full_alone : (names : List (List ℕ)) (text : List ℕ) (ls : List Line) (f
 full_alone names text ls f w e at q = first_full names text ls w e at (let h : f ≡ _ = cc in h)
 
 pub ok_alone : (n : ℕ) → FullAlone (Ok n)
-ok_alone n e at q = absurd (let z : ◌≡◌ {A = ℕ} 0 1 = cc in omega arith)
+ok_alone n e at q = cc
 
 -- an exit with a fault
 

@@ -18,7 +18,7 @@ use Rattle.text.proofs.Parse.{prefix_among, sign_no_digit, sign_no_letter}
 
 -- the signs
 
-abbrev prefix_at : ℕ → Prefix
+abbrev pub prefix_at : ℕ → Prefix
 prefix_at b = cond (eqb b 33) Not (cond (eqb b 88) Next (cond (eqb b 89) Previous (cond (eqb b 90) WeakPrevious (cond (eqb b 70) Finally (cond (eqb b 71) Globally (cond (eqb b 79) Once Historically))))))
 
 prefix_back : (p : Prefix) → prefix_at (prefix_sign p) ≡ p
@@ -325,10 +325,10 @@ invert_pair names all text n ls at (pair a t z) x b C =
     }
 
 some_bytes : (names : List (List ℕ)) → AllNames names → (n : ℕ) (r : Rule) (x : List ℕ) → Fits names n r → spelled names r ++ x ≡ [] → ⊥
-some_bytes names all n (truth v) x f e = let z : ◌≡◌ {A = ℕ} 0 1 = cc in omega arith
+some_bytes names all n (truth v) x f e = cc
 some_bytes names all n (signal k) x f e = let h = subst Letter (head e) (first_letter (get_or names k []) x (all k f)) in omega (arith, h.0)
-some_bytes names all n (under p r) x f e = let z : ◌≡◌ {A = ℕ} 0 1 = cc in omega arith
-some_bytes names all n (pair l s r) x f e = let z : ◌≡◌ {A = ℕ} 0 1 = cc in omega arith
+some_bytes names all n (under p r) x f e = cc
+some_bytes names all n (pair l s r) x f e = cc
 
 no_end : (names : List (List ℕ)) → AllNames names → (text : List ℕ) (n : ℕ) (ls : List Line) (at : ℕ) (r : Rule) (x : List ℕ)
     → at ≡ length text → Cand names text n ls at r x → ⊥
@@ -403,7 +403,7 @@ no_fault names text all dif (ends_left {n = n} {ls = ls} {at = at} {mid = mid} l
     let q = invert_pair names all text n ls at r x st.1 C in
     let m = match_reads names all dif text (n + 1) ls (at + 1) l q.l mid _ R q.left in
     let g : infix_sign q.s ∷ (spelled names q.q ++ (41 ∷ x)) ≡ [] = sym m.1 ∙ drop_all mid text (omega (arith, e)) in
-    let z : ◌≡◌ {A = ℕ} 0 1 = cc in omega arith
+    cc
 no_fault names text all dif (no_infix {n = n} {ls = ls} {at = at} {mid = mid} l st lt R w none) r x C =
     let q = invert_pair names all text n ls at r x st.1 C in
     let m = match_reads names all dif text (n + 1) ls (at + 1) l q.l mid _ R q.left in
@@ -414,7 +414,7 @@ no_fault names text all dif (ends_right {n = n} {ls = ls} {at = at} {mid = mid} 
     let P : Rule → Type 0 = λ z. Cand names text (n + 1) (written ls z) (mid + 1) q.q (41 ∷ x) in
     let i = match_reads names all dif text (n + 1) (written ls l) (mid + 1) o q.q end (41 ∷ x) S (subst P (sym m.0) (q.right mid m.1)) in
     let g : 41 ∷ x ≡ [] = sym i.1 ∙ drop_all end text (omega (arith, e)) in
-    let z : ◌≡◌ {A = ℕ} 0 1 = cc in omega arith
+    cc
 no_fault names text all dif (no_close {n = n} {ls = ls} {at = at} {mid = mid} {end = end} l s o st lt R k S w none) r x C =
     let q = invert_pair names all text n ls at r x st.1 C in
     let m = match_reads names all dif text (n + 1) ls (at + 1) l q.l mid _ R q.left in
