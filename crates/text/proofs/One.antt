@@ -191,6 +191,34 @@ stage2_at names text n ls l q a b g e m h =
 stage3_at : (text : List ℕ) (mid a b : ℕ) (g : Fault) → a ≡ b → Stage3 text mid b g → Stage3 text mid a g
 stage3_at text mid a b g e h = let Q : ℕ → Type 0 = λ z. Stage3 text mid z g in subst Q (sym e) h
 
+-- a fault of a pair whose left unit is read stands after it
+past_left : (names : List (List ℕ)) (text : List ℕ) → AllNames names → AllDifferent names → {n : ℕ} {ls : List Line} {at : ℕ} {mid : ℕ} (l : Rule) {g : Fault}
+    → Stands text at 40 → n < 32 → Reads names text (n + 1) ls (at + 1) l mid → Faulty names text n ls at g → Stage2 names text (n + 1) (written ls l) mid g
+past_left names text all dif {n = n} {ls = ls} {at = at} {mid = mid} l {g = g} st lt R G =
+    elim (seen names text G AtOpen st) [
+      | inl q ↦ absurd (let h = q.0 in omega (arith, h, lt))
+      | inr q ↦ elim q.1 [
+        | inl H ↦ absurd (sound names all dif text (n + 1) ls (at + 1) l mid g R H)
+        | inr z ↦ let m = same_reads names all dif text (n + 1) ls (at + 1) l z.0 mid z.1.0 R z.1.1.0 in
+            stage2_at names text (n + 1) ls l z.0 mid z.1.0 g m.0 m.1 z.1.1.1
+      ]
+    ]
+
+-- and one of a pair whose right unit is read too, after that
+past_right : (names : List (List ℕ)) (text : List ℕ) → AllNames names → AllDifferent names → {n : ℕ} {ls : List Line} {mid end : ℕ} (s : Infix) (o : Rule) {g : Fault}
+    → Stands text mid (infix_sign s) → Reads names text n ls (mid + 1) o end → Stage2 names text n ls mid g → Stage3 text mid end g
+past_right names text all dif {n = n} {ls = ls} {mid = mid} {end = end} s o {g = g} k S T =
+    elim T [
+      | inl a ↦ absurd (let h = a.0 in let w = k.0 in omega (arith, h, w))
+      | inr b ↦ elim b [
+        | inl c ↦ absurd (c.1 s (sym k.1))
+        | inr d ↦ elim d.1.1 [
+          | inl H ↦ absurd (sound names all dif text n ls (mid + 1) o end g S H)
+          | inr h ↦ let i = same_reads names all dif text n ls (mid + 1) o h.0 end h.1.0 S h.1.1.0 in stage3_at text mid end h.1.0 g i.1 h.1.1.1
+        ]
+      ]
+    ]
+
 same_fault : (names : List (List ℕ)) (text : List ℕ) → AllNames names → AllDifferent names → {n : ℕ} {ls : List Line} {at : ℕ} {f : Fault}
     → Faulty names text n ls at f → (g : Fault) → Faulty names text n ls at g → f ≡ g
 same_fault names text all dif (ends {n = n} {ls = ls} {at = at} e) g G =
@@ -213,98 +241,38 @@ same_fault names text all dif (deep_pair {n = n} {ls = ls} {at = at} st e) g G =
     elim (seen names text G AtOpen st) [ inl q ↦ sym q.1 | inr q ↦ absurd (let h = q.0 in omega (arith, h, e)) ]
 same_fault names text all dif (in_left {n = n} {ls = ls} {at = at} st lt F) g G =
     elim (seen names text G AtOpen st) [ inl q ↦ absurd (let h = q.0 in omega (arith, h, lt)) | inr q ↦ elim q.1 [ inl H ↦ same_fault names text all dif F g H | inr z ↦ absurd (sound names all dif text (n + 1) ls (at + 1) z.0 z.1.0 _ z.1.1.0 F) ] ]
-same_fault names text all dif (in_right {n = n} {ls = ls} {at = at} {mid = mid} l s st lt R k F) g G =
-    elim (seen names text G AtOpen st) [
-      | inl q ↦ absurd (let h = q.0 in omega (arith, h, lt))
-      | inr q ↦ elim q.1 [
-        | inl H ↦ absurd (sound names all dif text (n + 1) ls (at + 1) l mid g R H)
-        | inr z ↦ let m = same_reads names all dif text (n + 1) ls (at + 1) l z.0 mid z.1.0 R z.1.1.0 in
-            let T : Stage2 names text (n + 1) (written ls l) mid g = stage2_at names text (n + 1) ls l z.0 mid z.1.0 g m.0 m.1 z.1.1.1 in
-            elim T [ inl a ↦ absurd (let h = a.0 in let w = k.0 in omega (arith, h, w)) | inr b ↦ elim b [ inl c ↦ absurd (c.1 s (sym k.1)) | inr d ↦ elim d.1.1 [ inl H ↦ same_fault names text all dif F g H | inr h ↦ absurd (sound names all dif text (n + 1) (written ls l) (mid + 1) h.0 h.1.0 _ h.1.1.0 F) ] ] ]
+same_fault names text all dif (in_right {n = n} {ls = ls} {mid = mid} l s st lt R k F) g G =
+    elim (past_left names text all dif l st lt R G) [
+      | inl a ↦ absurd (let h = a.0 in let w = k.0 in omega (arith, h, w))
+      | inr b ↦ elim b [
+        | inl c ↦ absurd (c.1 s (sym k.1))
+        | inr d ↦ elim d.1.1 [ inl H ↦ same_fault names text all dif F g H | inr h ↦ absurd (sound names all dif text (n + 1) (written ls l) (mid + 1) h.0 h.1.0 _ h.1.1.0 F) ]
       ]
     ]
-same_fault names text all dif (ends_left {n = n} {ls = ls} {at = at} {mid = mid} l st lt R e) g G =
-    elim (seen names text G AtOpen st) [
-      | inl q ↦ absurd (let h = q.0 in omega (arith, h, lt))
-      | inr q ↦ elim q.1 [
-        | inl H ↦ absurd (sound names all dif text (n + 1) ls (at + 1) l mid g R H)
-        | inr z ↦ let m = same_reads names all dif text (n + 1) ls (at + 1) l z.0 mid z.1.0 R z.1.1.0 in
-            let T : Stage2 names text (n + 1) (written ls l) mid g = stage2_at names text (n + 1) ls l z.0 mid z.1.0 g m.0 m.1 z.1.1.1 in
-            elim T [ inl a ↦ sym a.1 | inr b ↦ elim b [ inl c ↦ absurd (let h = c.0 in omega (arith, h, e)) | inr d ↦ absurd (let h = d.1.0.0 in omega (arith, h, e)) ] ]
-      ]
+same_fault names text all dif (ends_left l st lt R e) g G =
+    elim (past_left names text all dif l st lt R G) [
+      | inl a ↦ sym a.1
+      | inr b ↦ elim b [ inl c ↦ absurd (let h = c.0 in omega (arith, h, e)) | inr d ↦ absurd (let h = d.1.0.0 in omega (arith, h, e)) ]
     ]
-same_fault names text all dif (no_infix {n = n} {ls = ls} {at = at} {mid = mid} l st lt R w none) g G =
-    elim (seen names text G AtOpen st) [
-      | inl q ↦ absurd (let h = q.0 in omega (arith, h, lt))
-      | inr q ↦ elim q.1 [
-        | inl H ↦ absurd (sound names all dif text (n + 1) ls (at + 1) l mid g R H)
-        | inr z ↦ let m = same_reads names all dif text (n + 1) ls (at + 1) l z.0 mid z.1.0 R z.1.1.0 in
-            let T : Stage2 names text (n + 1) (written ls l) mid g = stage2_at names text (n + 1) ls l z.0 mid z.1.0 g m.0 m.1 z.1.1.1 in
-            elim T [ inl a ↦ absurd (let h = a.0 in omega (arith, h, w)) | inr b ↦ elim b [ inl c ↦ sym c.2 | inr d ↦ absurd (none d.0 (sym d.1.0.1)) ] ]
-      ]
+same_fault names text all dif (no_infix l st lt R w none) g G =
+    elim (past_left names text all dif l st lt R G) [
+      | inl a ↦ absurd (let h = a.0 in omega (arith, h, w))
+      | inr b ↦ elim b [ inl c ↦ sym c.2 | inr d ↦ absurd (none d.0 (sym d.1.0.1)) ]
     ]
-same_fault names text all dif (ends_right {n = n} {ls = ls} {at = at} {mid = mid} {end = end} l s o st lt R k S e) g G =
-    elim (seen names text G AtOpen st) [
-      | inl q ↦ absurd (let h = q.0 in omega (arith, h, lt))
-      | inr q ↦ elim q.1 [
-        | inl H ↦ absurd (sound names all dif text (n + 1) ls (at + 1) l mid g R H)
-        | inr z ↦ let m = same_reads names all dif text (n + 1) ls (at + 1) l z.0 mid z.1.0 R z.1.1.0 in
-            let T : Stage2 names text (n + 1) (written ls l) mid g = stage2_at names text (n + 1) ls l z.0 mid z.1.0 g m.0 m.1 z.1.1.1 in
-            elim T [
-              | inl a ↦ absurd (let h = a.0 in let w = k.0 in omega (arith, h, w))
-              | inr b ↦ elim b [
-                | inl c ↦ absurd (c.1 s (sym k.1))
-                | inr d ↦ elim d.1.1 [
-                  | inl H ↦ absurd (sound names all dif text (n + 1) (written ls l) (mid + 1) o end g S H)
-                  | inr h ↦ let i = same_reads names all dif text (n + 1) (written ls l) (mid + 1) o h.0 end h.1.0 S h.1.1.0 in
-                      let U : Stage3 text mid end g = stage3_at text mid end h.1.0 g i.1 h.1.1.1 in
-                      elim U [ inl a ↦ sym a.1 | inr x ↦ elim x [ inl c ↦ absurd (let v = c.0 in omega (arith, v, e)) | inr c ↦ absurd (let v = c.0.0 in omega (arith, v, e)) ] ]
-                ]
-              ]
-            ]
-      ]
+same_fault names text all dif (ends_right l s o st lt R k S e) g G =
+    elim (past_right names text all dif s o k S (past_left names text all dif l st lt R G)) [
+      | inl a ↦ sym a.1
+      | inr x ↦ elim x [ inl c ↦ absurd (let v = c.0 in omega (arith, v, e)) | inr c ↦ absurd (let v = c.0.0 in omega (arith, v, e)) ]
     ]
-same_fault names text all dif (no_close {n = n} {ls = ls} {at = at} {mid = mid} {end = end} l s o st lt R k S w none) g G =
-    elim (seen names text G AtOpen st) [
-      | inl q ↦ absurd (let h = q.0 in omega (arith, h, lt))
-      | inr q ↦ elim q.1 [
-        | inl H ↦ absurd (sound names all dif text (n + 1) ls (at + 1) l mid g R H)
-        | inr z ↦ let m = same_reads names all dif text (n + 1) ls (at + 1) l z.0 mid z.1.0 R z.1.1.0 in
-            let T : Stage2 names text (n + 1) (written ls l) mid g = stage2_at names text (n + 1) ls l z.0 mid z.1.0 g m.0 m.1 z.1.1.1 in
-            elim T [
-              | inl a ↦ absurd (let h = a.0 in let w = k.0 in omega (arith, h, w))
-              | inr b ↦ elim b [
-                | inl c ↦ absurd (c.1 s (sym k.1))
-                | inr d ↦ elim d.1.1 [
-                  | inl H ↦ absurd (sound names all dif text (n + 1) (written ls l) (mid + 1) o end g S H)
-                  | inr h ↦ let i = same_reads names all dif text (n + 1) (written ls l) (mid + 1) o h.0 end h.1.0 S h.1.1.0 in
-                      let U : Stage3 text mid end g = stage3_at text mid end h.1.0 g i.1 h.1.1.1 in
-                      elim U [ inl a ↦ absurd (let v = a.0 in omega (arith, v, w)) | inr x ↦ elim x [ inl c ↦ sym c.2 | inr c ↦ absurd (none c.0.1) ] ]
-                ]
-              ]
-            ]
-      ]
+same_fault names text all dif (no_close l s o st lt R k S w none) g G =
+    elim (past_right names text all dif s o k S (past_left names text all dif l st lt R G)) [
+      | inl a ↦ absurd (let v = a.0 in omega (arith, v, w))
+      | inr x ↦ elim x [ inl c ↦ sym c.2 | inr c ↦ absurd (none c.0.1) ]
     ]
-same_fault names text all dif (full_pair {n = n} {ls = ls} {at = at} {mid = mid} {end = end} l s o st lt R k S close big) g G =
-    elim (seen names text G AtOpen st) [
-      | inl q ↦ absurd (let h = q.0 in omega (arith, h, lt))
-      | inr q ↦ elim q.1 [
-        | inl H ↦ absurd (sound names all dif text (n + 1) ls (at + 1) l mid g R H)
-        | inr z ↦ let m = same_reads names all dif text (n + 1) ls (at + 1) l z.0 mid z.1.0 R z.1.1.0 in
-            let T : Stage2 names text (n + 1) (written ls l) mid g = stage2_at names text (n + 1) ls l z.0 mid z.1.0 g m.0 m.1 z.1.1.1 in
-            elim T [
-              | inl a ↦ absurd (let h = a.0 in let w = k.0 in omega (arith, h, w))
-              | inr b ↦ elim b [
-                | inl c ↦ absurd (c.1 s (sym k.1))
-                | inr d ↦ elim d.1.1 [
-                  | inl H ↦ absurd (sound names all dif text (n + 1) (written ls l) (mid + 1) o end g S H)
-                  | inr h ↦ let i = same_reads names all dif text (n + 1) (written ls l) (mid + 1) o h.0 end h.1.0 S h.1.1.0 in
-                      let U : Stage3 text mid end g = stage3_at text mid end h.1.0 g i.1 h.1.1.1 in
-                      elim U [ inl a ↦ absurd (let v = a.0 in let w = close.0 in omega (arith, v, w)) | inr x ↦ elim x [ inl c ↦ absurd (c.1 close.1) | inr c ↦ sym c.1 ] ]
-                ]
-              ]
-            ]
-      ]
+same_fault names text all dif (full_pair l s o st lt R k S close big) g G =
+    elim (past_right names text all dif s o k S (past_left names text all dif l st lt R G)) [
+      | inl a ↦ absurd (let v = a.0 in let w = close.0 in omega (arith, v, w))
+      | inr x ↦ elim x [ inl c ↦ absurd (c.1 close.1) | inr c ↦ sym c.1 ]
     ]
 
 -- The first fault of a rule text is one fault.
