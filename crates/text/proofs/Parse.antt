@@ -80,9 +80,9 @@ past_byte text at h l m =
 digit_no_letter : (b : ℕ) → Among digits b → Letter b → ⊥
 digit_no_letter b s d = grind arith
 
--- where the letters end, no name goes on
-past_letters : (text : List ℕ) (at end : ℕ) → Letters text at end → Letter (get_or text (end - 1) 0) → Letter (get_or text end 0) → ⊥
-past_letters text at end s l m = by_place (near end (length text))
+-- no letter stands where the letters end
+pub past : (text : List ℕ) (at end : ℕ) → Letters text at end → Letter (get_or text end 0) → ⊥
+past text at end s m = by_place (near end (length text))
   where
     near : (a b : ℕ) → (a < b) ⊎ (b ≤ a)
     near a b = grind arith
@@ -145,7 +145,7 @@ whole_signal names text n before after at d name place k t lt e w =
         onward = t.some;
         fits = lt;
         room = subst (λ (ls : List Line). length ls ≤ 64) w.0 (room before after _ place _ w);
-        whole = past_letters text at d.end t.letters;
+        whole = λ _ m. past text at d.end t.letters m;
       };
       lines = w.0;
       line = w.1;

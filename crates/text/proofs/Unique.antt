@@ -1,6 +1,6 @@
 -- A text spells at most one rule, and a text that spells a rule that fits has no fault.
 use Rattle.std.proofs.Common.{◌≡◌, ℕ, suc, ◌+◌, ◌-◌, ◌<◌, ◌≤◌, Bool, true, cond, ◌&&◌, eqb, ◌⊎◌, List, [], ◌∷◌, ◌++◌, length, get_or, take, drop, sym, refl, ap, ◌∙◌, subst, inl, inr, suc-le-suc, arith}
-use Rattle.std.proofs.lemmas.List.{append-nil, append_assoc, length-append, length-drop, length-take-le, drop-drop, drop_all, get_or_past, get_or-drop, get_or-take, get_or_at, take-append-drop}
+use Rattle.std.proofs.lemmas.List.{append-nil, append_assoc, length-append, length-drop, length-take-le, drop-drop, drop_all, get_or-drop, get_or-take, get_or_at, take-append-drop}
 use Rattle.std.proofs.lemmas.Bool.{and_parts, and_from}
 use Rattle.std.proofs.lemmas.Bool.Decides.{nat_tests}
 use Rattle.std.specs.Char.{is_ascii_lowercase}
@@ -14,7 +14,7 @@ use Rattle.sheet.specs.declared.line.Line.TheVariants as line
 use Rattle.text.specs.declared.fault.Fault.{Fault}
 use Rattle.text.specs.Rules.{Rule, truth, signal, under, pair, spelled, Fits, written, last, prefix_sign, infix_sign, prefix_lines, infix_lines}
 use Rattle.text.specs.Reading.{Reads, NoUnit, Faulty, ends, wrong, unknown, deep_prefix, deep_pair, in_under, in_left, in_right, ends_left, no_infix, ends_right, no_close, full_digit, full_name, full_under, full_pair, FirstFault, too_long, inside, goes_on, Fitting}
-use Rattle.text.proofs.Parse.{prefix_among, sign_no_digit, sign_no_letter}
+use Rattle.text.proofs.Parse.{past, prefix_among, sign_no_digit, sign_no_letter}
 
 -- the signs
 
@@ -95,17 +95,6 @@ lower_letter b e = grind (arith, nat_tests)
 
 letter_lower : (b : ℕ) → Letter b → is_ascii_lowercase b ≡ true
 letter_lower b l = grind (arith, nat_tests)
-
--- no letter stands where the letters end
-past : (text : List ℕ) (at end : ℕ) → Letters text at end → Letter (get_or text end 0) → ⊥
-past text at end s m = by_place (near end (length text))
-  where
-    near : (a b : ℕ) → (a < b) ⊎ (b ≤ a)
-    near a b = grind arith
-
-    by_place : (end < length text) ⊎ (length text ≤ end) → ⊥
-    by_place (inl lt) = s.stops lt m
-    by_place (inr le) = let e = get_or_past text end 0 le in omega (arith, e, m.0)
 
 first_letter : (n u : List ℕ) → IsName n → Letter (get_or (n ++ u) 0 0)
 first_letter [] u e = absurd (let h = e.some in omega (arith, h))
