@@ -1,10 +1,11 @@
 -- What each way through the reader shows.
-use Rattle.std.proofs.Common.{◌≡◌, ℕ, ◌+◌, ◌-◌, ◌<◌, ◌≤◌, Bool, true, false, cond, eqb, refl, ◌⊎◌, List, [], ◌∷◌, ◌++◌, length, get_or, drop, IsErrAnd, Some, Ok, Err, Result, sym, ap, ◌∙◌, subst, inl, inr, arith, Bor}
+use Rattle.std.proofs.Common.{◌≡◌, ℕ, ◌+◌, ◌-◌, ◌<◌, ◌≤◌, Bool, true, false, cond, eqb, refl, ◌⊎◌, List, [], ◌∷◌, ◌++◌, length, get_or, drop, IsErrAnd, Option, None, Some, Ok, Err, Result, sym, ap, ◌∙◌, subst, inl, inr, arith, Bor}
 use Rattle.std.proofs.lemmas.List.{append_assoc, length_push, drop_more, take-append-drop, drop-drop, get_or_past}
 use Rattle.std.proofs.lemmas.Result.{err_from_is_err_and}
+use Rattle.std.specs.Option.{ok_or}
 use Rattle.lexer.specs.declared.token.Token.{Token}
 use Rattle.lexer.specs.declared.token.Token.TheVariants.{Sign, Digit, Name}
-use Rattle.lexer.specs.Names.{Letter, Letters}
+use Rattle.lexer.specs.Names.{Finds, Letter, Letters}
 use Rattle.lexer.specs.Tokens.{Among, signs, digits, NoToken, ByteToken, NameToken, IsToken, digit_of}
 use Rattle.sheet.specs.declared.line.Line.{Line}
 use Rattle.sheet.specs.declared.line.Line.TheVariants as line
@@ -14,19 +15,20 @@ use Rattle.text.specs.declared.sign.Prefix.TheVariants.{Not, Next, Previous, Wea
 use Rattle.text.specs.declared.sign.Infix.{Infix}
 use Rattle.text.specs.declared.reader.Done.{Done}
 use Rattle.text.specs.declared.fault.Fault.{Fault}
-use Rattle.text.specs.declared.fault.Fault.TheVariants.{Unknown, Sheet as OfSheet}
-use Rattle.text.specs.Rules.{Rule, truth, signal, under, pair, spelled, written, last, prefix_sign, infix_sign, prefix_lines, infix_lines}
+use Rattle.text.specs.declared.fault.Fault.TheVariants.{Byte, Early, Unknown, Sheet as OfSheet}
+use Rattle.text.specs.Guards.{Grown}
+use Rattle.text.specs.Rules.{IsPrefix, Rule, truth, signal, under, pair, spelled, written, last, prefix_sign, infix_sign, prefix_lines, infix_lines}
 use Rattle.text.specs.Steps.{Missing, Whole, Outcome, Wrote}
-use Rattle.text.specs.Reading.{Reads, Stands, NoUnit, Faulty, unknown, in_right, ends_left, no_infix, ends_right, no_close, full_digit, full_name, full_under, full_pair}
+use Rattle.text.specs.Reading.{Reads, Stands, NoUnit, Faulty, ends, wrong, unknown, in_right, ends_left, no_infix, ends_right, no_close, full_digit, full_name, full_under, full_pair}
 
 -- an exit with a fault
 
 pub outcome_err : (names : List (List ℕ)) (text : List ℕ) (n : ℕ) (before after : List Line) (at : ℕ) (r : Result Done Fault) (f : Fault)
-    → IsErrAnd r (λ y. y ≡ f) → Faulty names text n before at f → Outcome names text n before after at r
-outcome_err names text n before after at r f e w =
+    → IsErrAnd r (λ y. y ≡ f) → Faulty names text n before at f → Grown before after → Outcome names text n before after at r
+outcome_err names text n before after at r f e w g =
     let p = err_from_is_err_and r e in
     let P : Result Done Fault → Type 0 = λ q. Outcome names text n before after at q in
-    subst P (sym (p.1 ∙ ap (λ (y : Fault). Err y) p.2)) w
+    subst P (sym (p.1 ∙ ap (λ (y : Fault). Err y) p.2)) (w, g)
 
 -- bytes
 
@@ -78,9 +80,9 @@ past_byte text at h l m =
 digit_no_letter : (b : ℕ) → Among digits b → Letter b → ⊥
 digit_no_letter b s d = grind arith
 
--- where the letters end, no name goes on
-past_letters : (text : List ℕ) (at end : ℕ) → Letters text at end → Letter (get_or text (end - 1) 0) → Letter (get_or text end 0) → ⊥
-past_letters text at end s l m = by_place (near end (length text))
+-- no letter stands where the letters end
+pub past : (text : List ℕ) (at end : ℕ) → Letters text at end → Letter (get_or text end 0) → ⊥
+past text at end s m = by_place (near end (length text))
   where
     near : (a b : ℕ) → (a < b) ⊎ (b ≤ a)
     near a b = grind arith
@@ -143,7 +145,7 @@ whole_signal names text n before after at d name place k t lt e w =
         onward = t.some;
         fits = lt;
         room = subst (λ (ls : List Line). length ls ≤ 64) w.0 (room before after _ place _ w);
-        whole = past_letters text at d.end t.letters;
+        whole = λ _ m. past text at d.end t.letters m;
       };
       lines = w.0;
       line = w.1;
@@ -250,45 +252,66 @@ fault_right names text n before mid at l s left f o lt v k w =
     let P : List Line → Type 0 = λ x. Faulty names text (n + 1) x (left.end + 1) f in
     in_right l s o lt v.reads k (subst P v.lines w)
 
+-- the text ends where a unit is to stand
+pub fault_ends : (names : List (List ℕ)) (text : List ℕ) (n : ℕ) (before : List Line) (at : ℕ) (f : Fault) → (f ≡ Early at) × (at ≡ length text) → Faulty names text n before at f
+fault_ends names text n before at f e = subst (λ (q : Fault). Faulty names text n before at q) (sym e.0) (ends e.1)
+
 -- the sheet is full
 
-pub fault_pair_full : (names : List (List ℕ)) (text : List ℕ) (n : ℕ) (before mid next : List Line) (at : ℕ) (l : Rule) (s : Infix) (r : Rule) (left right : Done) (f : Fault)
+pub fault_pair_full : (names : List (List ℕ)) (text : List ℕ) (n : ℕ) (before mid next after : List Line) (at : ℕ) (l : Rule) (s : Infix) (r : Rule) (left right : Done) (f : Fault)
     → Stands text at 40 → n < 32 → Whole names text (n + 1) before mid (at + 1) left l → Stands text left.end (infix_sign s)
     → Whole names text (n + 1) mid next (left.end + 1) right r → Stands text right.end 41
-    → Wrote next [] (infix_lines s left.line right.line (length next)) left.end (Err f) → Faulty names text n before at f
-fault_pair_full names text n before mid next at l s r left right f o lt v k w z wrote =
+    → Wrote next after (infix_lines s left.line right.line (length next)) left.end (Err f) → Faulty names text n before at f
+fault_pair_full names text n before mid next after at l s r left right f o lt v k w z wrote =
     let P : Fault → Type 0 = λ x. Faulty names text n before at x in
     subst P (sym wrote.0) (full_pair l s r o lt v.reads k (moved _ _ _ _ _ _ _ _ v.lines w.reads) z
     (subst (λ (ls : List Line). 64 < length ls) (lines_pair names text (n + 1) before mid next (at + 1) (left.end + 1) left right l s r v w) wrote.1))
 
-pub fault_under_full : (names : List (List ℕ)) (text : List ℕ) (n : ℕ) (before mid : List Line) (at : ℕ) (p : Prefix) (r : Rule) (inner : Done) (f : Fault)
+pub fault_under_full : (names : List (List ℕ)) (text : List ℕ) (n : ℕ) (before mid after : List Line) (at : ℕ) (p : Prefix) (r : Rule) (inner : Done) (f : Fault)
     → Stands text at (prefix_sign p) → n < 32 → Whole names text (n + 1) before mid (at + 1) inner r
-    → Wrote mid [] (prefix_lines p inner.line (length mid)) at (Err f) → Faulty names text n before at f
-fault_under_full names text n before mid at p r inner f o lt v wrote =
+    → Wrote mid after (prefix_lines p inner.line (length mid)) at (Err f) → Faulty names text n before at f
+fault_under_full names text n before mid after at p r inner f o lt v wrote =
     let P : Fault → Type 0 = λ x. Faulty names text n before at x in
     subst P (sym wrote.0) (full_under p r o lt v.reads
     (subst (λ (ls : List Line). 64 < length ls) (lines_under names text (n + 1) before mid (at + 1) inner p r v) wrote.1))
 
-pub fault_digit_full : (names : List (List ℕ)) (text : List ℕ) (n : ℕ) (before : List Line) (at end : ℕ) (v : Bool) (f : Fault)
-    → ByteToken digits text at (digit_of v) end → length before ≤ 64 → Wrote before [] (line.Const v ∷ []) at (Err f) → Faulty names text n before at f
-fault_digit_full names text n before at end v f t few wrote =
+pub fault_digit_full : (names : List (List ℕ)) (text : List ℕ) (n : ℕ) (before after : List Line) (at end : ℕ) (v : Bool) (f : Fault)
+    → ByteToken digits text at (digit_of v) end → length before ≤ 64 → Wrote before after (line.Const v ∷ []) at (Err f) → Faulty names text n before at f
+fault_digit_full names text n before after at end v f t few wrote =
     let P : Fault → Type 0 = λ x. Faulty names text n before at x in
     subst P (sym wrote.0) (full_digit (value_of v) (few_values v) (t.within, sym t.byte ∙ sym (digit_value v))
     (let l = length_push before (line.Const v) in omega (arith, l, few, wrote.1)))
 
-pub fault_name_full : (names : List (List ℕ)) (text : List ℕ) (n : ℕ) (before : List Line) (at : ℕ) (name : List ℕ) (place k end : ℕ) (f : Fault)
+pub fault_name_full : (names : List (List ℕ)) (text : List ℕ) (n : ℕ) (before after : List Line) (at : ℕ) (name : List ℕ) (place k end : ℕ) (f : Fault)
     → NameToken text at name place end → (k < length names) × (get_or names k [] ≡ name) → length before ≤ 64
-    → Wrote before [] (line.Signal k ∷ []) place (Err f) → Faulty names text n before at f
-fault_name_full names text n before at name place k end f t ks few wrote =
+    → Wrote before after (line.Signal k ∷ []) place (Err f) → Faulty names text n before at f
+fault_name_full names text n before after at name place k end f t ks few wrote =
     let P : Fault → Type 0 = λ x. Faulty names text n before at x in
     subst P (sym (wrote.0 ∙ ap (λ (p : ℕ). OfSheet Full p) t.there)) (full_name t.some t.letters ks.0 (ks.1 ∙ t.part)
     (let l = length_push before (line.Signal k) in omega (arith, l, few, wrote.1)))
 
-pub fault_unknown : (names : List (List ℕ)) (text : List ℕ) (n : ℕ) (before : List Line) (at : ℕ) (name : List ℕ) (place end : ℕ)
-    → NameToken text at name place end → ((k : ℕ) → k < length names → get_or names k [] ≡ name → ⊥) → Faulty names text n before at (Unknown place)
-fault_unknown names text n before at name place end t no_name =
-    let P : ℕ → Type 0 = λ x. Faulty names text n before at (Unknown x) in
-    subst P (sym t.there) (unknown t.some t.letters (λ k lt e. no_name k lt (e ∙ sym t.part)))
+pub fault_unknown : (names : List (List ℕ)) (text : List ℕ) (n : ℕ) (before : List Line) (at : ℕ) (name : List ℕ) (place end : ℕ) (o : Option ℕ) (f : Fault)
+    → NameToken text at name place end → Finds names name o → (o ≡ None) × (f ≡ Unknown place) → Faulty names text n before at f
+fault_unknown names text n before at name place end o f t found e =
+    let P : Fault → Type 0 = λ x. Faulty names text n before at x in
+    let no_name = subst (Finds names name) e.0 found in
+    subst P (sym (e.1 ∙ ap (λ (x : ℕ). Unknown x) t.there)) (unknown t.some t.letters (λ k lt q. no_name k lt (q ∙ sym t.part)))
+
+pub fault_no_prefix : (names : List (List ℕ)) (text : List ℕ) (n : ℕ) (before : List Line) (at b after : ℕ) (o : Option Prefix) (f : Fault)
+    → ByteToken signs text at b after → (b ≡ 40 → ⊥) → IsPrefix b o → (o ≡ None) × (f ≡ Byte at) → Faulty names text n before at f
+fault_no_prefix names text n before at b after o f t nb read e =
+    let P : Fault → Type 0 = λ x. Faulty names text n before at x in
+    subst P (sym e.1) (wrong (no_prefix text at b after t nb (subst (IsPrefix b) e.0 read)))
+
+-- what stood in an `Option` that `ok_or` made a `Result` of
+
+pub was_some : {T E : Type 0} (o : Option T) (e : E) (r : Result T E) (x : T) → r ≡ ok_or o e → r ≡ Ok x → o ≡ Some x
+was_some None e r x p q = absurd (cc (p, q))
+was_some (Some y) e r x p q = cc
+
+pub was_none : {T E : Type 0} (o : Option T) (e f : E) (r : Result T E) → r ≡ ok_or o e → r ≡ Err f → (o ≡ None) × (f ≡ e)
+was_none None e f r p q = (refl, cc)
+was_none (Some y) e f r p q = absurd (cc (p, q))
 
 -- what the token is, at each kind
 

@@ -1,14 +1,11 @@
 -- What the whole reader shows.
-use Rattle.std.proofs.Common.{◌≡◌, ℕ, ◌≤◌, List, ◌++◌, length, take, IsErrAnd, Ok, Err, Result, sym, ap, ◌∙◌, subst, arith}
+use Rattle.std.proofs.Common.{◌≡◌, ℕ, ◌≤◌, List, ◌++◌, length, take, IsErrAnd, Ok, Err, Result, sym, ap, ◌∙◌, subst}
 use Rattle.std.proofs.lemmas.List.{append-nil, take_at, drop_all}
 use Rattle.std.proofs.lemmas.Result.{err_from_is_err_and}
-use Rattle.sheet.specs.declared.draft.Draft.{Draft}
 use Rattle.sheet.specs.declared.line.Line.{Line}
-use Rattle.sheet.specs.Sheets.{lines_of}
 use Rattle.text.specs.declared.fault.Fault.{Fault}
-use Rattle.text.specs.declared.pending.Pending.{Pending}
 use Rattle.text.specs.declared.reader.Done.{Done}
-use Rattle.text.specs.Guards.{Grown, Onward, held}
+use Rattle.text.specs.Guards.{Grown}
 use Rattle.lexer.specs.Names.{Good, names_of}
 use Rattle.text.specs.Reading.{Accepted, Faulty, FirstFault, FullAlone, Unambiguous, Verdict}
 use Rattle.text.specs.Rules.{Rule, spelled}
@@ -18,14 +15,8 @@ use Rattle.text.proofs.One.{one_fault, first_full}
 use Rattle.text.proofs.Unique.{apart, one_fitting}
 
 -- what is left where a guard is let go
-pub back : (d : Draft) (p q : Pending) → p.draft.now ≡ d → p.kept ≡ length (lines_of d) → Onward p q → take q.kept (held q) ≡ lines_of d
-back d p q e k o =
-    let n : q.kept ≡ length (lines_of d) = o.kept ∙ k in
-    ap (λ (ls : List Line). take q.kept ls) (o.grown.1 ∙ ap (λ (x : Draft). lines_of x ++ o.grown.0) e)
-    ∙ take_at (lines_of d) o.grown.0 q.kept (sym n)
-
-pub grown_from : (d : Draft) (p q : Pending) → p.draft.now ≡ d → Onward p q → Grown (lines_of d) (held q)
-grown_from d p q e o = (o.grown.0, o.grown.1 ∙ ap (λ (x : Draft). lines_of x ++ o.grown.0) e)
+pub back : (before after : List Line) (kept : ℕ) → kept ≡ length before → Grown before after → take kept after ≡ before
+back before after kept k g = ap (λ (ls : List Line). take kept ls) g.1 ∙ take_at before g.0 kept (sym k)
 
 pub accepted : (names : List (List ℕ)) (text : List ℕ) (before after : List Line) (d : Done) (r : Rule)
     → length text ≤ 4096 → length text ≤ d.end → Whole names text 0 before after 0 d r → Grown before after → Accepted names text before after d.line r
@@ -58,7 +49,7 @@ pub full_alone : (names : List (List ℕ)) (text : List ℕ) (ls : List Line) (f
 full_alone names text ls f w e at q = first_full names text ls w e at (let h : f ≡ _ = cc in h)
 
 pub ok_alone : (n : ℕ) → FullAlone (Ok n)
-ok_alone n e at q = absurd (let z : ◌≡◌ {A = ℕ} 0 1 = cc in omega arith)
+ok_alone n e at q = cc
 
 -- an exit with a fault
 
@@ -77,13 +68,13 @@ refused_full names text ls r f e w =
 
 -- what was read through a guard, told of the draft
 
-pub faulty_from : (names : List (List ℕ)) (text : List ℕ) (p : Pending) (d : Draft) (f : Fault) → p.draft.now ≡ d
-    → Faulty names text 0 (held p) 0 f → Faulty names text 0 (lines_of d) 0 f
-faulty_from names text p d f e w = let P : Draft → Type 0 = λ x. Faulty names text 0 (lines_of x) 0 f in subst P e w
+pub faulty_from : (names : List (List ℕ)) (text : List ℕ) (before lines : List Line) (f : Fault) → lines ≡ before
+    → Faulty names text 0 lines 0 f → Faulty names text 0 before 0 f
+faulty_from names text before lines f e w = let P : List Line → Type 0 = λ x. Faulty names text 0 x 0 f in subst P e w
 
-pub whole_from : (names : List (List ℕ)) (text : List ℕ) (p : Pending) (d : Draft) (after : List Line) (o : Done) (r : Rule) → p.draft.now ≡ d
-    → Whole names text 0 (held p) after 0 o r → Whole names text 0 (lines_of d) after 0 o r
-whole_from names text p d after o r e w = let P : Draft → Type 0 = λ x. Whole names text 0 (lines_of x) after 0 o r in subst P e w
+pub whole_from : (names : List (List ℕ)) (text : List ℕ) (before lines after : List Line) (o : Done) (r : Rule) → lines ≡ before
+    → Whole names text 0 lines after 0 o r → Whole names text 0 before after 0 o r
+whole_from names text before lines after o r e w = let P : List Line → Type 0 = λ x. Whole names text 0 x after 0 o r in subst P e w
 
 pub accepted_at : (names : List (List ℕ)) (text : List ℕ) (before a b : List Line) (line : ℕ) (r : Rule) → b ≡ a
     → Accepted names text before a line r → Accepted names text before b line r

@@ -1,6 +1,6 @@
 -- A text spells at most one rule, and a text that spells a rule that fits has no fault.
 use Rattle.std.proofs.Common.{◌≡◌, ℕ, suc, ◌+◌, ◌-◌, ◌<◌, ◌≤◌, Bool, true, cond, ◌&&◌, eqb, ◌⊎◌, List, [], ◌∷◌, ◌++◌, length, get_or, take, drop, sym, refl, ap, ◌∙◌, subst, inl, inr, suc-le-suc, arith}
-use Rattle.std.proofs.lemmas.List.{append-nil, append_assoc, length-append, length-drop, length-take-le, drop-drop, drop_all, get_or_past, get_or-drop, get_or-take, get_or_at, take-append-drop}
+use Rattle.std.proofs.lemmas.List.{append-nil, append_assoc, length-append, length-drop, length-take-le, drop-drop, drop_all, get_or-drop, get_or-take, get_or_at, take-append-drop}
 use Rattle.std.proofs.lemmas.Bool.{and_parts, and_from}
 use Rattle.std.proofs.lemmas.Bool.Decides.{nat_tests}
 use Rattle.std.specs.Char.{is_ascii_lowercase}
@@ -14,11 +14,11 @@ use Rattle.sheet.specs.declared.line.Line.TheVariants as line
 use Rattle.text.specs.declared.fault.Fault.{Fault}
 use Rattle.text.specs.Rules.{Rule, truth, signal, under, pair, spelled, Fits, written, last, prefix_sign, infix_sign, prefix_lines, infix_lines}
 use Rattle.text.specs.Reading.{Reads, NoUnit, Faulty, ends, wrong, unknown, deep_prefix, deep_pair, in_under, in_left, in_right, ends_left, no_infix, ends_right, no_close, full_digit, full_name, full_under, full_pair, FirstFault, too_long, inside, goes_on, Fitting}
-use Rattle.text.proofs.Parse.{prefix_among, sign_no_digit, sign_no_letter}
+use Rattle.text.proofs.Parse.{past, prefix_among, sign_no_digit, sign_no_letter}
 
 -- the signs
 
-abbrev prefix_at : ℕ → Prefix
+abbrev pub prefix_at : ℕ → Prefix
 prefix_at b = cond (eqb b 33) Not (cond (eqb b 88) Next (cond (eqb b 89) Previous (cond (eqb b 90) WeakPrevious (cond (eqb b 70) Finally (cond (eqb b 71) Globally (cond (eqb b 79) Once Historically))))))
 
 prefix_back : (p : Prefix) → prefix_at (prefix_sign p) ≡ p
@@ -95,17 +95,6 @@ lower_letter b e = grind (arith, nat_tests)
 
 letter_lower : (b : ℕ) → Letter b → is_ascii_lowercase b ≡ true
 letter_lower b l = grind (arith, nat_tests)
-
--- no letter stands where the letters end
-past : (text : List ℕ) (at end : ℕ) → Letters text at end → Letter (get_or text end 0) → ⊥
-past text at end s m = by_place (near end (length text))
-  where
-    near : (a b : ℕ) → (a < b) ⊎ (b ≤ a)
-    near a b = grind arith
-
-    by_place : (end < length text) ⊎ (length text ≤ end) → ⊥
-    by_place (inl lt) = s.stops lt m
-    by_place (inr le) = let e = get_or_past text end 0 le in omega (arith, e, m.0)
 
 first_letter : (n u : List ℕ) → IsName n → Letter (get_or (n ++ u) 0 0)
 first_letter [] u e = absurd (let h = e.some in omega (arith, h))
@@ -325,10 +314,10 @@ invert_pair names all text n ls at (pair a t z) x b C =
     }
 
 some_bytes : (names : List (List ℕ)) → AllNames names → (n : ℕ) (r : Rule) (x : List ℕ) → Fits names n r → spelled names r ++ x ≡ [] → ⊥
-some_bytes names all n (truth v) x f e = let z : ◌≡◌ {A = ℕ} 0 1 = cc in omega arith
+some_bytes names all n (truth v) x f e = cc
 some_bytes names all n (signal k) x f e = let h = subst Letter (head e) (first_letter (get_or names k []) x (all k f)) in omega (arith, h.0)
-some_bytes names all n (under p r) x f e = let z : ◌≡◌ {A = ℕ} 0 1 = cc in omega arith
-some_bytes names all n (pair l s r) x f e = let z : ◌≡◌ {A = ℕ} 0 1 = cc in omega arith
+some_bytes names all n (under p r) x f e = cc
+some_bytes names all n (pair l s r) x f e = cc
 
 no_end : (names : List (List ℕ)) → AllNames names → (text : List ℕ) (n : ℕ) (ls : List Line) (at : ℕ) (r : Rule) (x : List ℕ)
     → at ≡ length text → Cand names text n ls at r x → ⊥
@@ -403,7 +392,7 @@ no_fault names text all dif (ends_left {n = n} {ls = ls} {at = at} {mid = mid} l
     let q = invert_pair names all text n ls at r x st.1 C in
     let m = match_reads names all dif text (n + 1) ls (at + 1) l q.l mid _ R q.left in
     let g : infix_sign q.s ∷ (spelled names q.q ++ (41 ∷ x)) ≡ [] = sym m.1 ∙ drop_all mid text (omega (arith, e)) in
-    let z : ◌≡◌ {A = ℕ} 0 1 = cc in omega arith
+    cc
 no_fault names text all dif (no_infix {n = n} {ls = ls} {at = at} {mid = mid} l st lt R w none) r x C =
     let q = invert_pair names all text n ls at r x st.1 C in
     let m = match_reads names all dif text (n + 1) ls (at + 1) l q.l mid _ R q.left in
@@ -414,7 +403,7 @@ no_fault names text all dif (ends_right {n = n} {ls = ls} {at = at} {mid = mid} 
     let P : Rule → Type 0 = λ z. Cand names text (n + 1) (written ls z) (mid + 1) q.q (41 ∷ x) in
     let i = match_reads names all dif text (n + 1) (written ls l) (mid + 1) o q.q end (41 ∷ x) S (subst P (sym m.0) (q.right mid m.1)) in
     let g : 41 ∷ x ≡ [] = sym i.1 ∙ drop_all end text (omega (arith, e)) in
-    let z : ◌≡◌ {A = ℕ} 0 1 = cc in omega arith
+    cc
 no_fault names text all dif (no_close {n = n} {ls = ls} {at = at} {mid = mid} {end = end} l s o st lt R k S w none) r x C =
     let q = invert_pair names all text n ls at r x st.1 C in
     let m = match_reads names all dif text (n + 1) ls (at + 1) l q.l mid _ R q.left in

@@ -6,6 +6,7 @@ use Rattle.text.specs.declared.sign.Infix.{Infix}
 use Rattle.text.specs.declared.reader.Done.{Done}
 use Rattle.text.specs.declared.fault.Fault.{Fault}
 use Rattle.text.specs.declared.fault.Fault.TheVariants.{Byte, Early, Sheet as OfSheet}
+use Rattle.text.specs.Guards.{Grown}
 use Rattle.text.specs.Rules.{Rule, written, infix_sign}
 use Rattle.text.specs.Reading.{Reads, Stands, Faulty}
 
@@ -13,6 +14,10 @@ use Rattle.text.specs.Reading.{Reads, Stands, Faulty}
 abbrev pub Wrote : List Line → List Line → List Line → ℕ → Result ℕ Fault → Type 0
 Wrote before after own at (Ok n) = (after ≡ before ++ own) × (n + 1 ≡ length after) × (n < 64)
 Wrote before after own at (Err f) = (f ≡ OfSheet Full at) × (64 < length (before ++ own))
+
+abbrev pub ByteAt : List ℕ → ℕ → Result ℕ Fault → Type 0
+ByteAt text p (Ok b) = Stands text p b
+ByteAt text p (Err f) = (f ≡ Early p) × (p ≡ length text)
 
 -- the text ends at p, or its byte there is none of those that may stand
 abbrev pub Missing : List ℕ → ℕ → Type 0 → Fault → Type 0
@@ -34,4 +39,4 @@ pub record Whole (names : List (List ℕ)) (text : List ℕ) (n : ℕ) (before a
 
 abbrev pub Outcome : List (List ℕ) → List ℕ → ℕ → List Line → List Line → ℕ → Result Done Fault → Type 0
 Outcome names text n before after at (Ok d) = (r : Rule) × Whole names text n before after at d r
-Outcome names text n before after at (Err f) = Faulty names text n before at f
+Outcome names text n before after at (Err f) = Faulty names text n before at f × Grown before after

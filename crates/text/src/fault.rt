@@ -46,13 +46,13 @@ impl Fault {
         ensures { result ≡ fault_place self }
     {
         match self {
-            Fault::Byte { at } => at,
-            Fault::Early { at } => at,
-            Fault::Unknown { at } => at,
-            Fault::Deep { at } => at,
-            Fault::After { at } => at,
+            Fault::Byte { at }
+            | Fault::Early { at }
+            | Fault::Unknown { at }
+            | Fault::Deep { at }
+            | Fault::After { at }
+            | Fault::Sheet { at, .. } => at,
             Fault::Long => 4096,
-            Fault::Sheet { at, .. } => at,
         }
     }
 }
@@ -76,10 +76,7 @@ impl<T, E> Place<T, E> for Result<T, E> {
     ghost meant = { λ s n. placed s n };
 
     fn at(self, at: usize) -> Result<T, Placed<E>> {
-        match self {
-            Ok(value) => Ok(value),
-            Err(error) => Err(Placed { error, at }),
-        }
+        self.map_err(|error| Placed { error, at })
     }
 }
 

@@ -1,16 +1,12 @@
 // The guard over a draft: lines that are written through it are taken back unless the whole rule is accepted.
 ghost use Rattle.std.specs.Prelude.{◌≡◌, length, take};
-ghost use Rattle.sheet.specs.Ledger.{pushed};
-ghost use Rattle.sheet.specs.Sheets.{drafted, lines_of, written};
-ghost use Rattle.text.specs.Guards.{Onward, held};
+ghost use Rattle.sheet.specs.Sheets.{lines_of};
 
 use sheet::draft::Draft;
-use sheet::line::Line;
-use sheet::refusal::Refusal;
 
-/// Lines that are written into a draft. Let go, it puts the draft's count back to what it was.
+/// A draft that lines are written into. Let go, it puts the draft's count back to what it was.
 pub struct Pending<'a> {
-    draft: &'a mut Draft,
+    pub draft: &'a mut Draft,
     kept: usize,
 }
 
@@ -33,14 +29,6 @@ impl<'a> Pending<'a> {
     {
         let kept = draft.len();
         Pending { draft, kept }
-    }
-
-    /// Adds a line to the draft.
-    pub fn push(&mut self, line: Line) -> Result<u8, Refusal>
-        ensures adds { (written result, drafted self.new.draft.now) ≡ pushed (drafted self.old.draft.now) line }
-        ensures onward { Onward self.old self.new }
-    {
-        self.draft.push(line)
     }
 
     /// Leaves the lines in the draft.

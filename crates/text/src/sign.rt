@@ -28,6 +28,7 @@ pub enum Infix {
 
 impl Prefix {
     /// The prefix of that sign.
+    // No `TryFrom`: its error would say nothing, since the reader tells the fault and its place.
     pub fn from_sign(sign: char) -> Option<Prefix>
         ensures { IsPrefix sign result }
     {
@@ -47,6 +48,7 @@ impl Prefix {
 
 impl Infix {
     /// The pair's operator of that sign.
+    // No `TryFrom`: as for `Prefix`.
     pub fn from_sign(sign: char) -> Option<Infix>
         ensures { IsInfix sign result }
     {
