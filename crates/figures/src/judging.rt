@@ -5,14 +5,28 @@ use meaning::evaluator::judge;
 use recording::gapped::GappedTape;
 use recording::recording::Recording;
 use recording::tape::Tape;
-use recording::truth::Ternary;
+use recording::truth::Truth;
 use sheet::sealed::Sealed;
 use std::alloc::Global;
 
-fn judge_rounds<R: Recording>(sheet: &Sealed, recording: &R, cells: &mut [R::Truth], rounds: u32) {
+// Judges so many rounds with so many cells, and sums these; 0 where there is no memory for them.
+fn judge_rounds<R: Recording>(
+    heap: Global,
+    sheet: &Sealed,
+    recording: &R,
+    cells: usize,
+    rounds: u32,
+) -> u64
+where
+    R::Truth: AsByte,
+{
+    let Ok(mut own) = Vec::from_elem(heap, R::Truth::no(), cells) else {
+        return 0;
+    };
     for _ in 0..rounds {
-        let _ = judge(sheet, recording, cells);
+        let _ = judge(sheet, recording, own.as_mut_slice());
     }
+    of_cells(own.as_slice())
 }
 
 /// Judges lines on a tape, with so many cells; 0 where something is refused.
@@ -33,13 +47,7 @@ pub extern "C" fn figures_judge_two(
     let Ok(tape) = Tape::new(signals, stem, cycle, masks) else {
         return 0;
     };
-    match Vec::from_elem(heap, false, cells) {
-        Ok(mut own) => {
-            judge_rounds(&sheet, &tape, own.as_mut_slice(), rounds);
-            of_cells(own.as_slice())
-        }
-        Err(_) => 0,
-    }
+    judge_rounds(heap, &sheet, &tape, cells, rounds)
 }
 
 /// Judges lines on a gapped tape, with so many cells; 0 where something is refused.
@@ -61,11 +69,5 @@ pub extern "C" fn figures_judge_three(
     let Ok(tape) = GappedTape::new(signals, stem, cycle, masks, lost) else {
         return 0;
     };
-    match Vec::from_elem(heap, Ternary::No, cells) {
-        Ok(mut own) => {
-            judge_rounds(&sheet, &tape, own.as_mut_slice(), rounds);
-            of_cells(own.as_slice())
-        }
-        Err(_) => 0,
-    }
+    judge_rounds(heap, &sheet, &tape, cells, rounds)
 }

@@ -10,17 +10,17 @@ const TIMES: u64 = 0x0100_0000_01b3;
 
 // The checksum with one more byte.
 pub(crate) fn more(sum: u64, byte: u8) -> u64 {
-    (sum ^ byte as u64).wrapping_mul(TIMES)
+    (sum ^ u64::from(byte)).wrapping_mul(TIMES)
 }
 
-/// A truth value that counts as a byte.
+/// A truth value that counts as a byte. It is no `From`: neither `u8` nor the truth values are this crate's.
 pub(crate) trait AsByte: Truth {
     fn as_byte(self) -> u8;
 }
 
 impl AsByte for bool {
     fn as_byte(self) -> u8 {
-        self as u8
+        u8::from(self)
     }
 }
 
@@ -35,11 +35,9 @@ impl AsByte for Ternary {
 }
 
 pub(crate) fn of_cells<T: AsByte>(cells: &[T]) -> u64 {
-    let mut sum = START;
-    for cell in cells {
-        sum = more(sum, cell.as_byte());
-    }
-    sum
+    cells
+        .iter()
+        .fold(START, |sum, &cell| more(sum, cell.as_byte()))
 }
 
 fn three(sum: u64, a: u8, b: u8, c: u8) -> u64 {
@@ -70,15 +68,17 @@ fn of_pair(sum: u64, pair: Pair) -> u64 {
 }
 
 pub(crate) fn of_machine(machine: &Machine) -> u64 {
-    let mut sum = START;
-    for gate in machine.gates() {
-        sum = of_gate(sum, *gate);
-    }
-    for variable in machine.variables() {
-        sum = of_variable(sum, *variable);
-    }
-    for pair in machine.pairs() {
-        sum = of_pair(sum, *pair);
-    }
+    let sum = machine
+        .gates()
+        .iter()
+        .fold(START, |sum, &gate| of_gate(sum, gate));
+    let sum = machine
+        .variables()
+        .iter()
+        .fold(sum, |sum, &variable| of_variable(sum, variable));
+    let sum = machine
+        .pairs()
+        .iter()
+        .fold(sum, |sum, &pair| of_pair(sum, pair));
     more(sum, machine.root())
 }

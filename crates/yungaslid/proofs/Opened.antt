@@ -5,9 +5,9 @@ use Rattle.lexer.specs.declared.names.Names.{Names}
 use Rattle.sheet.specs.Sheets.{sealed_lines}
 use Rattle.sheet.specs.declared.sealed.Sealed.{Sealed}
 use Rattle.text.specs.declared.fault.Fault.{Fault}
-use Rattle.text.specs.Reading.{FirstFault, Fitting}
+use Rattle.text.specs.Reading.{FirstFault, Fitting, Read}
 use Rattle.yungaslid.specs.Answers.{refused_text}
-use Rattle.yungaslid.specs.Opening.{Read, Opens, faulty, ruled}
+use Rattle.yungaslid.specs.Opening.{Opens, faulty, ruled}
 
 module _ (names rule : List ℕ) (Taped : Type 0) (n : Names) (opened : Opened names (Ok n)) (taped : Taped) where
   pub faulty_at : (f : Fault) → Read (known n) rule (Err f) → Opens names rule Taped (Err (refused_text f))

@@ -3,7 +3,6 @@ pub mod Levels
 pub mod Cells
 pub mod Tapes
 pub mod Buffers
-pub mod Pages
 pub mod Opening
 pub mod Listings
 pub mod Verdicts

@@ -1,21 +1,14 @@
 -- What the calls have in common: names, a recording, and a rule text, looked at in this order.
-use Rattle.std.specs.Prelude.{◌≡◌, ℕ, List, [], Ok, Err, Result}
+use Rattle.std.specs.Prelude.{ℕ, List, [], Ok, Err, Result}
 use Rattle.lexer.specs.Names.{Good, names_of}
 use Rattle.lexer.specs.declared.names.NamesRefusal.{NamesRefusal}
 use Rattle.recording.specs.declared.refusal.TapeRefusal.{TapeRefusal}
-use Rattle.sheet.specs.Sheets.{sealed_lines}
 use Rattle.sheet.specs.declared.line.Line.{Line}
-use Rattle.sheet.specs.declared.sealed.Sealed.{Sealed}
 use Rattle.text.specs.declared.fault.Fault.{Fault}
 use Rattle.text.specs.Reading.{FirstFault, Fitting}
 use Rattle.text.specs.Rules.{Rule, written}
 use Rattle.yungaslid.specs.declared.answer.Answer.{Answer}
 use Rattle.yungaslid.specs.Answers.{refused_names, refused_tape, refused_text}
-
--- the rule of a text, on a sheet of its own, or its first fault
-abbrev pub Read : List (List ℕ) → List ℕ → Result Sealed Fault → Type 0
-Read names text (Ok s) = (r : Rule) × Fitting names text [] r × (sealed_lines s ≡ written [] r)
-Read names text (Err f) = FirstFault names text [] f
 
 -- the lines of the rule text, or the first refusal; Taped says that the recording can be made
 pub data Opens (names rule : List ℕ) (Taped : Type 0) : Result (List Line) Answer → Type 0 where

@@ -33,13 +33,9 @@ impl Answer {
     pub(crate) fn refused(number: u8, place: Option<usize>) -> Answer
         ensures { result ≡ refused_as number place }
     {
-        let place = match place {
-            Some(place) => place as u64,
-            None => NOWHERE,
-        };
         Answer {
-            number: number as u32,
-            place,
+            number: u32::from(number),
+            place: place.map_or(NOWHERE, |place| place as u64),
             value: 0,
         }
     }

@@ -2,7 +2,7 @@
 ghost use Rattle.std.specs.Prelude.{◌≡◌};
 ghost use Rattle.recording.specs.Kinds.{three};
 ghost use Rattle.yungaslid.specs.Levels.{level, byte};
-ghost use Rattle.yungaslid.specs.Cells.{means as cell_means};
+ghost use Rattle.yungaslid.specs.Cells.{means as cell_means, cell};
 
 use recording::truth::{Ternary, Truth};
 
@@ -30,36 +30,39 @@ impl Truth for Cell {
     }
 
     fn and(self, other: Cell) -> Cell {
-        if self.byte < other.byte { self } else { other }
+        Cell {
+            byte: self.byte.min(other.byte),
+        }
     }
 
     fn or(self, other: Cell) -> Cell {
-        if self.byte < other.byte { other } else { self }
+        Cell {
+            byte: self.byte.max(other.byte),
+        }
     }
 
     fn not(self) -> Cell {
-        if self.byte < 2 {
-            Cell {
-                byte: 2 - self.byte,
-            }
-        } else {
-            Cell { byte: 0 }
+        Cell {
+            byte: 2u8.saturating_sub(self.byte),
         }
     }
 }
 
-impl Cell {
-    // The cell of a value: 0, 1 or 2.
-    pub(crate) fn of(value: Ternary) -> Cell
-        ensures { result.byte ≡ byte value }
-    {
-        match value {
-            Ternary::No => Cell { byte: 0 },
-            Ternary::Lost => Cell { byte: 1 },
-            Ternary::Yes => Cell { byte: 2 },
-        }
-    }
+/// The cell of a value: 0, 1 or 2.
+impl From<Ternary> for Cell {
+    ghost from_gives = { λ p c. c ≡ cell p };
 
+    fn from(value: Ternary) -> Cell {
+        let byte = match value {
+            Ternary::No => 0,
+            Ternary::Lost => 1,
+            Ternary::Yes => 2,
+        };
+        Cell { byte }
+    }
+}
+
+impl Cell {
     // The byte 0, 1 or 2 that means what this one does.
     pub(crate) fn canonical(self) -> u8
         ensures { result ≡ byte (level self.byte) }

@@ -3,13 +3,14 @@ ghost use Rattle.yungaslid.specs.Answers.{told as told_as};
 ghost use Rattle.yungaslid.specs.Checks.{Checks};
 
 use crate::answer::{Answer, told};
-use crate::rule::sheet_of;
 use checker::check::check;
 use lexer::names::Names;
 use machine::place::Machine;
 use machine::translator::translate;
 use recording::tape::Tape;
+use text::reader::read_sheet;
 
+// With the parameters of the call from C, which are looked at in their order.
 fn checked(
     names: &[u8],
     rule: &[u8],
@@ -24,7 +25,7 @@ fn checked(
 {
     let names = Names::new(names)?;
     let tape = Tape::new(signals, stem, cycle, masks)?;
-    let sheet = sheet_of(&names, rule)?;
+    let sheet = read_sheet(&names, rule)?;
     let mut machine = Machine::new();
     translate(&sheet, &mut machine);
     let accepting = check(&machine, &tape, rows, back)?;

@@ -5,8 +5,6 @@ pub mod answer;
 pub mod cell;
 pub mod checking;
 pub mod listing;
-mod page;
-mod rule;
 #[cfg(test)]
 mod tests;
 pub mod verdict;

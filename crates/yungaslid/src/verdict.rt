@@ -5,11 +5,12 @@ ghost use Rattle.yungaslid.specs.Verdicts.{Verdicts};
 use crate::answer::{Answer, told};
 use crate::cell::Cell;
 use crate::cell::tape::CellTape;
-use crate::rule::sheet_of;
 use lexer::names::Names;
 use meaning::evaluator::judge;
 use recording::gapped::GappedTape;
+use text::reader::read_sheet;
 
+// With the parameters of the call from C, which are looked at in their order.
 fn judged(
     names: &[u8],
     rule: &[u8],
@@ -24,7 +25,7 @@ fn judged(
 {
     let names = Names::new(names)?;
     let tape = GappedTape::new(signals, stem, cycle, masks, lost)?;
-    let sheet = sheet_of(&names, rule)?;
+    let sheet = read_sheet(&names, rule)?;
     let verdict = judge(&sheet, &CellTape { tape }, cells)?;
     Ok(verdict.canonical() as u64)
 }

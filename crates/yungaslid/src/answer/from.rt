@@ -1,4 +1,4 @@
-// The refusals of all layers as answers.
+// The refusals of all layers as answers: an impl for each, so that `?` answers it; a trait of them would ask as many.
 ghost use Rattle.std.specs.Prelude.{◌≡◌};
 ghost use Rattle.yungaslid.specs.Answers.{refused_names, refused_tape, refused_text, refused_judging, refused_check, unprinted};
 

@@ -29,9 +29,6 @@ impl Recording for CellTape {
     }
 
     fn value(&self, signal: u32, sample: u32) -> Option<Cell> {
-        match self.tape.value(signal, sample) {
-            Some(value) => Some(Cell::of(value)),
-            None => None,
-        }
+        self.tape.value(signal, sample).map(Cell::from)
     }
 }

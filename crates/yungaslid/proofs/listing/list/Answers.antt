@@ -1,10 +1,12 @@
-use Rattle.std.proofs.Common.{◌≡◌, length, sym, refl, ap, ◌∙◌, subst}
+use Rattle.std.proofs.Common.{◌≡◌, ◌++◌, refl, ap, ◌∙◌}
+use Rattle.std.proofs.lemmas.Fmt.{contents_after_writes}
 use Rattle.std.proofs.lemmas.Result.{err_from_is_err_and}
+use Rattle.arrayvec.specs.ArrayString.{ArrayString}
 use Rattle.sheet.specs.Sheets.{sealed_lines}
+use Rattle.machine.specs.Machines.{tables}
 use Rattle.tables.specs.Text.{tables_text}
-use Rattle.yungaslid.specs.Answers.{answered}
 use Rattle.yungaslid.specs.Buffers.{over}
-use Rattle.yungaslid.specs.Listings.{Lists, refused, unlisted, listed, listing}
+use Rattle.yungaslid.specs.Listings.{refused, unlisted, listed, listing}
 use Rattle.yungaslid.specs.Opening.{misnamed}
 use Rattle.yungaslid.proofs.Opened.{faulty_at, ruled_at}
 use Rattle.yungaslid.proofs.listing.list.Goals as goal
@@ -20,16 +22,17 @@ returns-in_err-sheet c =
     rw (p.1, p.2)
     (refused _ (faulty_at _ _ _ c.in_ok-names.names c.in_ok-names.ensures tt _ c.in_err-sheet.ensures) refl)
 
-pub returns-in_err-page : goal.returns-in_err-page
-returns-in_err-page c =
-    let p = err_from_is_err_and c.from_residual-in_err-page.result c.from_residual-in_err-page.ensures.1 in
+pub returns-in_err-write : goal.returns-in_err-write
+returns-in_err-write c =
+    let p = err_from_is_err_and c.from_residual-in_err-write.result c.from_residual-in_err-write.ensures.1 in
     rw (p.1, p.2)
     (unlisted _ (ruled_at _ _ _ c.in_ok-names.names c.in_ok-names.ensures tt c.in_ok-sheet.sheet c.in_ok-sheet.ensures) refl)
 
 pub returns : goal.returns
 returns c =
-    let e : c.text-text.result.now ≡ listing (sealed_lines c.in_ok-sheet.sheet) =
-    c.text-text.ensures ∙ c.in_ok-page.ensures ∙ ap tables_text c.translate.ensures.filled in
-    subst (λ l. Lists c.args.names.now c.args.rule.now c.args.out.now c.put.new.out (answered (length l))) (sym e)
+    let text : c.write.new.self.bytes ≡ listing (sealed_lines c.in_ok-sheet.sheet) =
+    contents_after_writes _ (λ (s : ArrayString). s.bytes) (λ w l v t. t) c.new-page.result _ c.write.new.self c.in_ok-write.ensures.writes
+    ∙ ap (λ l. l ++ tables_text (tables c.translate.new.machine)) c.new-page.ensures ∙ ap tables_text c.translate.ensures.filled in
+    rw (c.len.ensures.value, text)
     (listed _ (ruled_at _ _ _ c.in_ok-names.names c.in_ok-names.ensures tt c.in_ok-sheet.sheet c.in_ok-sheet.ensures)
-    (c.put.ensures ∙ ap (λ l. over l c.args.out.now) e))
+    (c.put.ensures ∙ ap (λ l. over l c.args.out.now) (c.as_bytes.ensures.value ∙ c.as_str.ensures.value ∙ text)))
