@@ -65,12 +65,12 @@ pub(crate) fn narrowed<T: Narrow>(
 pub(crate) fn size(n: u128) -> u32
     ensures { result ≡ min n (2 ^ 32 - 1) }
 {
-    n.min(u32::MAX as u128) as u32
+    u32::try_from(n).unwrap_or(u32::MAX)
 }
 
 // A place of 64 bits, in the same way.
 pub(crate) fn place(n: u128) -> usize
     ensures { result ≡ min n (2 ^ 64 - 1) }
 {
-    n.min(usize::MAX as u128) as usize
+    usize::try_from(n).unwrap_or(usize::MAX)
 }
