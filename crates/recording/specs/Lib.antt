@@ -6,3 +6,4 @@ pub mod Gapped
 pub mod Wheel
 pub mod Refusals
 pub mod Made
+pub mod Printed

@@ -1,7 +1,10 @@
 // Truth kinds, and the two that are built.
-ghost use Rattle.std.specs.Prelude.{◌≡◌};
+ghost use Rattle.std.specs.Prelude.{◌≡◌, Some};
 ghost use Rattle.recording.specs.Kind.{Kind, Tells};
 ghost use Rattle.recording.specs.Kinds.{two, three};
+ghost use Rattle.recording.specs.Printed.{truth_text};
+
+use std::fmt;
 
 /// A kind of truth values. Its laws are laws of what the values mean, so that different values may mean the same.
 pub trait Truth: Copy {
@@ -72,6 +75,18 @@ pub enum Ternary {
     No,
     Lost,
     Yes,
+}
+
+impl fmt::Display for Ternary {
+    ghost output = { λ p. Some (truth_text p) };
+
+    fn fmt<W: fmt::Write>(&self, f: &mut fmt::Formatter<W>) -> fmt::Result {
+        f.write_str(match self {
+            Ternary::No => "no",
+            Ternary::Lost => "lost",
+            Ternary::Yes => "yes",
+        })
+    }
 }
 
 impl Truth for Ternary {

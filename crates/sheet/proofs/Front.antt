@@ -1,24 +1,15 @@
 -- The lines of a draft, as many as its count, and what the ledger answers and leaves in each case.
-use Rattle.std.proofs.Common.{◌≡◌, ℕ, zero, suc, ◌+◌, ◌-◌, ◌<◌, true, false, ◌&&◌, eqb, ltb, ◌≢◌, List, [], ◌∷◌, ◌++◌, map, length, get_or, take, set, Some, None, Option, sym, refl, subst, arith, length-take-le, get_or-set_other, get_or-take, get_or-set_same, take-take, below_more}
-use Rattle.std.proofs.lemmas.List.{take_more_set}
-use Rattle.std.proofs.lemmas.Bool.{and_parts}
+use Rattle.std.proofs.Common.{◌≡◌, ℕ, zero, suc, ◌<◌, Bool, true, false, cond, ◌&&◌, eqb, ltb, List, [], ◌∷◌, map, length, get_or, Some, None, Option, sym, subst, arith, length-take-le, get_or-take}
 use Rattle.std.proofs.lemmas.Bool.Decides.{nat_tests}
 use Rattle.sheet.specs.declared.draft.Draft.{Draft}
 use Rattle.sheet.specs.declared.line.Line.{Line}
-use Rattle.sheet.specs.Ledger.{Written, Done, Refused, Drafted, Write, Strike, fed}
-use Rattle.sheet.specs.Sheets.{lines_of, drafted}
-use Rattle.sheet.specs.Table.{lines_with, named_line, operands_of, fits, blank, Lower, Sheet}
+use Rattle.sheet.specs.Ledger.{Ledger, Refused, Write, fed, pushed}
+use Rattle.sheet.specs.Sheets.{lines_of}
+use Rattle.sheet.specs.Table.{lines_with, named_line, operands_of, operands, fits, blank, Lower, Sheet}
 use Rattle.sheet.proofs.Lowering.{fits_lower}
 
 pub length_lines : (d : Draft) → length (lines_of d) ≡ d.count
 length_lines d = length-take-le d.count d.lines (omega (arith, d.room, d.whole))
-
--- a line above those of a draft, put there
-pub lower_more : (d : Draft) (l : Line) → d.count < 64 → fits d.count l ≡ true → (k : ℕ) → k < d.count + 1 → fits k (get_or (set d.lines d.count l) k blank) ≡ true
-lower_more d l h f =
-    below_more _ _
-    (λ k below. let ne : k ≢ d.count = omega arith in rw (get_or-set_other d.lines d.count k l blank ne) (d.lower k below))
-    (rw (get_or-set_same d.lines d.count l blank (omega (arith, d.whole))) f)
 
 -- the lines of a draft name lower lines
 pub draft_sheet : (d : Draft) → Sheet (lines_of d)
@@ -36,34 +27,31 @@ all_get_d P d none [] h k = none
 all_get_d P d none (x ∷ xs) h zero = h.0
 all_get_d P d none (x ∷ xs) h (suc k) = all_get_d P d none xs h.1 k
 
--- a line whose operands the table allows fits
-abbrev Fitting : ℕ → ℕ → ℕ → Option Line → Type 0
-Fitting n a b None = Unit {0}
-Fitting n a b (Some l) = operands_of l n a b ≡ true → fits n l ≡ true
+-- the operands of a line that a code names, and whether it fits, are what the table asks of it
+abbrev Asked : ℕ → ℕ → ℕ → Option Line → Type 0
+Asked n a b None = Unit {0}
+Asked n a b (Some l) = operands_of l n a b ≡ ((eqb (operands l).0 a && eqb (operands l).1 b) && fits n l)
 
-pub named_fits : (n c a b : ℕ) (l : Line) → named_line c a b ≡ Some l → operands_of l n a b ≡ true → fits n l ≡ true
-named_fits n c a b l e =
-    let signal : (ltb a 32 && eqb b 0) ≡ true → ltb a 32 ≡ true = λ h. (and_parts (ltb a 32) (eqb b 0) h).0 in
-    let one : (ltb a n && eqb b 0) ≡ true → ltb a n ≡ true = λ h. (and_parts (ltb a n) (eqb b 0) h).0 in
-    let two : (ltb a n && ltb b n) ≡ true → (ltb a n && ltb b n) ≡ true = λ h. h in
-    subst (Fitting n a b) e
-    (all_get_d (Fitting n a b) None tt (map Some (lines_with a b)) ((λ h. refl), (signal, (one, (two, (two, (one, (two, (two, (one, (one, (two, (two, tt)))))))))))) c)
+bit_asked : (a b : ℕ) → (ltb a 2 && eqb b 0) ≡ ((eqb (cond (eqb a 1) 1 0) a && eqb 0 b) && true)
+bit_asked a b = grind (arith, nat_tests)
 
--- what the ledger says of each way out of a call
-pub write_operand : (d : Draft) (c a b : ℕ) (l : Line) → named_line c a b ≡ Some l → operands_of l d.count a b ≡ false → (Refused 2, drafted d) ≡ fed (drafted d) (Write c a b)
-write_operand d c a b l e f = simp (e, length_lines d, f)
+one_asked : (p : Bool) (a b : ℕ) → (p && eqb b 0) ≡ ((eqb a a && eqb 0 b) && p)
+one_asked p a b = grind (arith, nat_tests)
 
-pub write_full : (d : Draft) (c a b : ℕ) (l : Line) → named_line c a b ≡ Some l → operands_of l d.count a b ≡ true → d.count ≡ 64 → (Refused 3, drafted d) ≡ fed (drafted d) (Write c a b)
-write_full d c a b l e f h = let t : eqb d.count 64 ≡ true = grind (arith, nat_tests) in simp (e, length_lines d, f, t)
+two_asked : (p : Bool) (a b : ℕ) → p ≡ ((eqb a a && eqb b b) && p)
+two_asked p a b = grind (arith, nat_tests)
 
-pub write_done : (d : Draft) (c a b : ℕ) (l : Line) → named_line c a b ≡ Some l → operands_of l d.count a b ≡ true → d.count < 64 → (Written d.count, record { lines = take (d.count + 1) (set d.lines d.count l); form = Drafted }) ≡ fed (drafted d) (Write c a b)
-write_done d c a b l e f h =
-    let t : eqb d.count 64 ≡ false = grind (arith, nat_tests) in
-    let m : take (d.count + 1) (set d.lines d.count l) ≡ lines_of d ++ (l ∷ []) = take_more_set d.lines d.count l (omega (arith, d.whole)) in
-    simp (e, length_lines d, f, t, m)
+named_asked : (n c a b : ℕ) (l : Line) → named_line c a b ≡ Some l → operands_of l n a b ≡ ((eqb (operands l).0 a && eqb (operands l).1 b) && fits n l)
+named_asked n c a b l e =
+    let one : (ltb a n && eqb b 0) ≡ ((eqb a a && eqb 0 b) && ltb a n) = one_asked (ltb a n) a b in
+    let two : (ltb a n && ltb b n) ≡ ((eqb a a && eqb b b) && (ltb a n && ltb b n)) = two_asked (ltb a n && ltb b n) a b in
+    subst (Asked n a b) e
+    (all_get_d (Asked n a b) None tt (map Some (lines_with a b)) (bit_asked a b, (one_asked (ltb a 32) a b, (one, (two, (two, (one, (two, (two, (one, (one, (two, (two, tt)))))))))))) c)
 
-pub strike_done : (d : Draft) → 0 < d.count → (Done, record { lines = take (d.count - 1) d.lines; form = Drafted }) ≡ fed (drafted d) Strike
-strike_done d h =
-    let t : eqb d.count 0 ≡ false = grind (arith, nat_tests) in
-    let m : take (d.count - 1) (lines_of d) ≡ take (d.count - 1) d.lines = take-take (d.count - 1) d.count d.lines (omega arith) in
-    simp (length_lines d, t, m)
+-- what the ledger says of a line that a code names: with other operands than the line's own it is refused, else it is
+-- pushed
+pub write_operand : (s : Ledger) (c a b : ℕ) (l : Line) → named_line c a b ≡ Some l → (eqb (operands l).0 a && eqb (operands l).1 b) ≡ false → (Refused 2, s) ≡ fed s (Write c a b)
+write_operand s c a b l e f = simp (e, named_asked (length s.lines) c a b l e, f)
+
+pub write_pushed : (s : Ledger) (c a b : ℕ) (l : Line) → named_line c a b ≡ Some l → (eqb (operands l).0 a && eqb (operands l).1 b) ≡ true → pushed s l ≡ fed s (Write c a b)
+write_pushed s c a b l e f = simp (e, named_asked (length s.lines) c a b l e, f)

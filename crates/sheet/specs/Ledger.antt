@@ -2,7 +2,7 @@
 -- alone and knows nothing of how a sheet is kept; refusals are their numbers.
 use Rattle.std.specs.Prelude.{ℕ, ◌-◌, cond, List, [], ◌∷◌, ◌++◌, length, take, Some, None, Option, ◌==◌}
 use Rattle.sheet.specs.declared.line.Line.{Line}
-use Rattle.sheet.specs.Table.{named_line, operands_of}
+use Rattle.sheet.specs.Table.{named_line, operands_of, fits}
 
 pub data Form : Type 0 where
   Drafted Shut : Form
@@ -44,6 +44,10 @@ put x l = cond (length l.lines == 64) (refused 3 l) (Written (length l.lines), w
 abbrev pub put_named : Option Line → ℕ → ℕ → Ledger → Answer × Ledger
 put_named None a b l = refused 1 l
 put_named (Some x) a b l = cond (operands_of x (length l.lines) a b) (put x l) (refused 2 l)
+
+-- a line given whole. 2: it names a signal at or above 32, or a line that is not below it
+abbrev pub pushed : Ledger → Line → Answer × Ledger
+pushed l x = cond (fits (length l.lines) x) (put x l) (refused 2 l)
 
 -- 4: strike or seal with no line
 abbrev pub unless_empty : Answer × Ledger → Ledger → Answer × Ledger

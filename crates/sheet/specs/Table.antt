@@ -1,6 +1,6 @@
 -- The sheet's table: which line a code and two operands name, which operands it allows, and what a sheet of such
 -- lines keeps.
-use Rattle.std.specs.Prelude.{ℕ, zero, suc, ◌+◌, ◌<◌, Bool, true, false, ◌&&◌, List, [], ◌∷◌, map, length, Some, None, Option, ◌==◌, nat_lt, slice_index_or}
+use Rattle.std.specs.Prelude.{ℕ, zero, suc, ◌+◌, ◌<◌, Bool, true, false, ◌&&◌, List, [], ◌∷◌, map, length, Some, None, Option, ◌==◌, nat_lt, slice_index_or, cond}
 use Rattle.sheet.specs.declared.line.Line.{Line}
 use Rattle.sheet.specs.declared.line.Line.TheVariants.{Const, Signal, Not, And, Or, Next, Until, WeakUntil, Previous, WeakPrevious, Since, WeakSince}
 
@@ -41,6 +41,21 @@ operands_of (Previous a) = a_line
 operands_of (WeakPrevious a) = a_line
 operands_of (Since a b) = two_lines
 operands_of (WeakSince a b) = two_lines
+
+-- the two operands by which its code names a line
+abbrev pub operands : Line → ℕ × ℕ
+operands (Const v) = (cond v 1 0, 0)
+operands (Signal i) = (i, 0)
+operands (Not a) = (a, 0)
+operands (And a b) = (a, b)
+operands (Or a b) = (a, b)
+operands (Next a) = (a, 0)
+operands (Until a b) = (a, b)
+operands (WeakUntil a b) = (a, b)
+operands (Previous a) = (a, 0)
+operands (WeakPrevious a) = (a, 0)
+operands (Since a b) = (a, b)
+operands (WeakSince a b) = (a, b)
 
 -- what stands past the end of a list of lines
 abbrev pub blank : Line

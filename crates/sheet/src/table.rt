@@ -1,6 +1,6 @@
-// The sheet's table: which line a code and two operands name, and which operands it allows.
+// The sheet's table: which line a code and two operands name, and which lines fit a sheet.
 ghost use Rattle.std.specs.Prelude.{◌≡◌};
-ghost use Rattle.sheet.specs.Table.{named_line, operands_of};
+ghost use Rattle.sheet.specs.Table.{named_line, operands, fits as fits_below};
 
 use crate::line::Line;
 
@@ -26,22 +26,43 @@ impl Line {
         })
     }
 
-    /// Whether a sheet of `count` lines allows these operands in a line of this kind.
-    pub(crate) fn allows(self, left: u8, right: u8, count: usize) -> bool
-        ensures { result ≡ operands_of self count left right }
+    /// The operands by which its code names this line.
+    pub(crate) fn operands(self) -> (u8, u8)
+        ensures { result ≡ operands self }
     {
         match self {
-            Line::Const(_) => left < 2 && right == 0,
-            Line::Signal(_) => left < 32 && right == 0,
-            Line::Not(_) | Line::Next(_) | Line::Previous(_) | Line::WeakPrevious(_) => {
-                (left as usize) < count && right == 0
+            Line::Const(value) => (u8::from(value), 0),
+            Line::Signal(only)
+            | Line::Not(only)
+            | Line::Next(only)
+            | Line::Previous(only)
+            | Line::WeakPrevious(only) => (only, 0),
+            Line::And(left, right)
+            | Line::Or(left, right)
+            | Line::Until(left, right)
+            | Line::WeakUntil(left, right)
+            | Line::Since(left, right)
+            | Line::WeakSince(left, right) => (left, right),
+        }
+    }
+
+    /// Whether a sheet of `count` lines has what this line names: signals below 32, lines below `count`.
+    pub(crate) fn fits(self, count: usize) -> bool
+        ensures { result ≡ fits_below count self }
+    {
+        match self {
+            Line::Const(_) => true,
+            Line::Signal(signal) => signal < 32,
+            Line::Not(only) | Line::Next(only) | Line::Previous(only) | Line::WeakPrevious(only) =>
+                usize::from(only) < count,
+            Line::And(left, right)
+            | Line::Or(left, right)
+            | Line::Until(left, right)
+            | Line::WeakUntil(left, right)
+            | Line::Since(left, right)
+            | Line::WeakSince(left, right) => {
+                usize::from(left) < count && usize::from(right) < count
             }
-            Line::And(_, _)
-            | Line::Or(_, _)
-            | Line::Until(_, _)
-            | Line::WeakUntil(_, _)
-            | Line::Since(_, _)
-            | Line::WeakSince(_, _) => (left as usize) < count && (right as usize) < count,
         }
     }
 }

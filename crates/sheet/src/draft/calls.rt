@@ -1,6 +1,6 @@
-// The calls on a draft: write, strike, and what its readers and the rule reader need.
+// The calls on a draft: push, write, strike, and what its readers and the rule reader need.
 ghost use Rattle.std.specs.Prelude.{◌≡◌, List, [], length, take, ◌==◌};
-ghost use Rattle.sheet.specs.Ledger.{fed, Write, Strike};
+ghost use Rattle.sheet.specs.Ledger.{fed, pushed, Write, Strike};
 ghost use Rattle.sheet.specs.Sheets.{lines_of, drafted, written, done};
 
 use crate::draft::Draft;
@@ -39,14 +39,11 @@ impl Draft {
         &self.lines[0..self.count]
     }
 
-    /// Adds the line of this code and these operands, and answers its number.
-    pub fn write(&mut self, code: u8, left: u8, right: u8) -> Result<u8, Refusal>
-        ensures { (written result, drafted self.new) ≡ fed (drafted self.old) (Write code left right) }
+    /// Adds a line, and answers its number.
+    pub fn push(&mut self, line: Line) -> Result<u8, Refusal>
+        ensures { (written result, drafted self.new) ≡ pushed (drafted self.old) line }
     {
-        let Some(line) = Line::named(code, left, right) else {
-            return Err(Refusal::Code);
-        };
-        if !line.allows(left, right, self.count) {
+        if !line.fits(self.count) {
             return Err(Refusal::Operand);
         }
         if self.count == 64 {
@@ -58,14 +55,22 @@ impl Draft {
         Ok(number as u8)
     }
 
+    /// Adds the line of this code and these operands, and answers its number.
+    pub fn write(&mut self, code: u8, left: u8, right: u8) -> Result<u8, Refusal>
+        ensures { (written result, drafted self.new) ≡ fed (drafted self.old) (Write code left right) }
+    {
+        let line = Line::named(code, left, right).ok_or(Refusal::Code)?;
+        if line.operands() != (left, right) {
+            return Err(Refusal::Operand);
+        }
+        self.push(line)
+    }
+
     /// Takes the last line off.
     pub fn strike(&mut self) -> Result<(), Refusal>
         ensures { (done result, drafted self.new) ≡ fed (drafted self.old) Strike }
     {
-        if self.count == 0 {
-            return Err(Refusal::Empty);
-        }
-        self.count -= 1;
+        self.count = self.count.checked_sub(1).ok_or(Refusal::Empty)?;
         Ok(())
     }
 

@@ -1,14 +1,22 @@
-use Rattle.std.proofs.Common.{sym, ◌∙◌, arith, length-set}
-use Rattle.sheet.proofs.Front.{lower_more, named_fits, write_done}
+use Rattle.std.proofs.Common.{◌≡◌, true, false, not, ◌&&◌, eqb}
+use Rattle.std.proofs.lemmas.Bool.{not-true, not-false}
+use Rattle.sheet.specs.Sheets.{drafted}
+use Rattle.sheet.specs.Table.{named_line, operands}
+use Rattle.std.proofs.Common.{Some}
+use Rattle.sheet.proofs.Front.{write_operand, write_pushed}
 use Rattle.sheet.proofs.draft.Draft.write.Goals as goal
 
-pub invariant_of-self : goal.invariant_of-self
-invariant_of-self c = record {
-  whole = length-set c.args.self.now.lines c.args.self.now.count c.in-Some.line ∙ c.args.self.now.whole;
-  room = omega (arith, c.args.self.now.room);
-  lower = lower_more c.args.self.now c.in-Some.line (omega (arith, c.args.self.now.room)) (named_fits c.args.self.now.count c.args.code c.args.left c.args.right c.in-Some.line (sym c.in-Some.ensures) (sym c.if-not-allows.ensures));
-}
+pub returns-then-ne : goal.returns-then-ne
+returns-then-ne c =
+    let line = c.in_ok-line.line in
+    let own : not (eqb (operands line).0 c.args.left && eqb (operands line).1 c.args.right) ≡ true = cc (c.ne.ensures, c.operands.ensures, c.if-ne.true) in
+    let named : named_line c.args.code c.args.left c.args.right ≡ Some line = cc (c.named.ensures, c.in_ok-line.ensures.ok_part) in
+    write_operand (drafted c.args.self.now) _ _ _ _ named (not-true _ own)
 
 pub returns : goal.returns
 returns c =
-    write_done c.args.self.now c.args.code c.args.left c.args.right c.in-Some.line (sym c.in-Some.ensures) (sym c.if-not-allows.ensures) (omega (arith, c.args.self.now.room))
+    let line = c.in_ok-line.line in
+    let own : not (eqb (operands line).0 c.args.left && eqb (operands line).1 c.args.right) ≡ false = cc (c.ne.ensures, c.operands.ensures, c.if-ne.false) in
+    let named : named_line c.args.code c.args.left c.args.right ≡ Some line = cc (c.named.ensures, c.in_ok-line.ensures.ok_part) in
+    let wrote = write_pushed (drafted c.args.self.now) _ _ _ _ named (not-false _ own) in
+    cc
