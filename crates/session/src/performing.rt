@@ -56,9 +56,9 @@ where
         judged,
         written,
         machine,
-        &mut cells[0..cell_count],
-        &mut bits[0..bit_count],
-        &mut rows[0..row_count],
+        &mut cells[..cell_count],
+        &mut bits[..bit_count],
+        &mut rows[..row_count],
     );
     Stepped {
         sheet: stepped.sheet,
