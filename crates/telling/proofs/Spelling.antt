@@ -1,9 +1,8 @@
 -- One item more of a text, one row more of the samples.
-use Rattle.std.proofs.Common.{◌≡◌, ℕ, suc, ◌+◌, ◌-◌, ◌<◌, min, List, [], ◌∷◌, ◌++◌, length, get_or, take, drop, sym, ap, ◌∙◌, append_assoc, append-nil, add-one, arith, drop-cons}
+use Rattle.std.proofs.Common.{◌≡◌, ℕ, suc, ◌+◌, ◌<◌, List, [], ◌∷◌, ◌++◌, length, get_or, take, drop, sym, ap, ◌∙◌, append_assoc, append-nil, add-one, drop-cons}
 use lib.Seq.{drop-length}
 use Rattle.recording.specs.declared.truth.Ternary.{Ternary}
-use Rattle.recording.specs.Printed.{truth_text}
-use Rattle.telling.specs.Truths.{each, more_text, row_text, rows_text}
+use Rattle.telling.specs.Truths.{each, row_text, rows_text}
 
 module _ {X : Type 0} (text : X → List ℕ) where
   pub each_more : (xs : List X) (k : ℕ) (x d : X) (bs all : List ℕ) → k < length xs → get_or xs k d ≡ x
