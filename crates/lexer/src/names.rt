@@ -1,10 +1,11 @@
 // The names line, read through a view of the caller's bytes.
 ghost use Rattle.std.specs.Prelude.{◌≡◌, length, Decides};
-ghost use Rattle.lexer.specs.Names.{IsName, IsFirst, Opened, Finds, known, names_number};
-ghost use Rattle.lexer.specs.Parts.{Nth};
+ghost use Rattle.std.specs.Iterator.Adapters.{take_count, take_source};
+ghost use Rattle.lexer.specs.Names.{IsName, IsFirst, Opened, Finds, known, line_of, names_number, spaced};
+ghost use Rattle.lexer.specs.Parts.{Nth, parts_left};
 
-use crate::parts::nth_part;
-use crate::token::letters_end;
+use crate::parts::Parts;
+use std::iter::Take;
 
 /// The names of a line of 1 to 32 different names, parted by one space. A name is 1 to 8 lower-case letters.
 #[derive(Clone, Copy)]
@@ -34,7 +35,7 @@ impl NamesRefusal {
 fn is_name(bytes: &[u8]) -> bool
     ensures { Decides result (IsName bytes.now) }
 {
-    bytes.len() > 0 && bytes.len() <= 8 && letters_end(bytes, 0) == bytes.len()
+    (1..=8).contains(&bytes.len()) && bytes.iter().all(u8::is_ascii_lowercase)
 }
 
 impl<'a> Names<'a> {
@@ -43,61 +44,50 @@ impl<'a> Names<'a> {
         ensures { Opened bytes.now result }
     {
         let names = Names { bytes };
-        if let Some(_) = nth_part(bytes, b' ', 32) {
-            return Err(NamesRefusal::Malformed);
+        let good = Parts::new(bytes, b' ').enumerate().all(|(number, name)| {
+            number < 32 && is_name(name) && names.is_first(name, number as u8)
+        });
+        if good {
+            Ok(names)
+        } else {
+            Err(NamesRefusal::Malformed)
         }
-        let mut number = 0;
-        while let Some(name) = names.get(number) {
-            if !is_name(name) || !names.is_first(name, number) {
-                return Err(NamesRefusal::Malformed);
-            }
-            number += 1;
-        }
-        Ok(names)
+    }
+
+    // The names in order, no more than 32.
+    fn iter(&self) -> Take<Parts<'a>>
+        ensures source { parts_left (take_source result) ≡ spaced (line_of self.now) }
+        ensures count { take_count result ≡ 32 }
+    {
+        Parts::new(self.bytes, b' ').take(32)
     }
 
     /// How many names there are.
     pub fn count(&self) -> u8
         ensures { result ≡ length (known self.now) }
     {
-        let mut count = 0;
-        while let Some(_) = self.get(count) {
-            count += 1;
-        }
-        count
+        self.iter().count() as u8
     }
 
     /// The name of that number, if there are so many.
     pub fn get(&self, number: u8) -> Option<&'a [u8]>
         ensures { Nth (known self.now) number result }
     {
-        if number >= 32 {
-            return None;
-        }
-        nth_part(self.bytes, b' ', number as usize)
+        self.iter().nth(number as usize)
     }
 
     // Whether that is the first number that has the name.
     fn is_first(&self, name: &[u8], number: u8) -> bool
         ensures { Decides result (IsFirst (known self.now) name.now number) }
     {
-        match self.find(name) {
-            Some(first) => first == number,
-            None => false,
-        }
+        self.find(name) == Some(number)
     }
 
     /// The first number that has the name.
     pub fn find(&self, name: &[u8]) -> Option<u8>
         ensures { Finds (known self.now) name.now result }
     {
-        let mut number = 0;
-        while let Some(other) = self.get(number) {
-            if other == name {
-                return Some(number);
-            }
-            number += 1;
-        }
-        None
+        let number = self.iter().position(|other| other == name)?;
+        Some(number as u8)
     }
 }

@@ -1,6 +1,7 @@
 // What stands between the separators of a row of bytes.
 ghost use Rattle.std.specs.Prelude.{◌≡◌, ◌∷◌};
-ghost use Rattle.lexer.specs.Parts.{parts as parting, FirstOf, Joins, Nth, rest_parts};
+ghost use Rattle.std.specs.Iterator.{YieldsFirstRef, item_count};
+ghost use Rattle.lexer.specs.Parts.{parts as parting, Joins, Nth, parts_left, rest_parts};
 
 /// The bytes before the first separator, and those after it, if there is one.
 #[derive(Clone, Copy)]
@@ -9,31 +10,50 @@ pub struct Part<'a> {
     pub rest: Option<&'a [u8]>,
 }
 
-// The place of the first separator, or the length where there is none.
-fn first_of(bytes: &[u8], separator: u8) -> usize
-    ensures { FirstOf bytes.now separator result }
-{
-    for (i, byte) in bytes.iter().enumerate() {
-        if *byte == separator {
-            return i;
-        }
-    }
-    bytes.len()
-}
-
 /// Cuts the first part off.
 pub fn first_part<'a>(bytes: &'a [u8], separator: u8) -> Part<'a>
     ensures parted { parting separator bytes.now ≡ result.bytes.now ∷ rest_parts separator result.rest }
     ensures whole { Joins separator bytes.now result.bytes.now result.rest }
 {
-    let end = first_of(bytes, separator);
-    if end == bytes.len() {
-        Part { bytes, rest: None }
-    } else {
-        Part {
-            bytes: &bytes[0..end],
+    match bytes.iter().position(|byte| *byte == separator) {
+        Some(end) => Part {
+            bytes: &bytes[..end],
             rest: Some(&bytes[end + 1..]),
+        },
+        None => Part { bytes, rest: None },
+    }
+}
+
+/// The parts of a row of bytes, in order.
+#[derive(Clone, Copy)]
+pub struct Parts<'a> {
+    rest: Option<&'a [u8]>,
+    separator: u8,
+}
+
+impl<'a> Parts<'a> {
+    /// All the parts.
+    pub fn new(bytes: &'a [u8], separator: u8) -> Parts<'a>
+        ensures { parts_left result ≡ parting separator bytes.now }
+    {
+        Parts {
+            rest: Some(bytes),
+            separator,
         }
+    }
+}
+
+impl<'a> Iterator for Parts<'a> {
+    type Item = &'a [u8];
+
+    ghost next_gives = { YieldsFirstRef parts_left };
+
+    ghost remaining = { item_count parts_left };
+
+    fn next(&mut self) -> Option<&'a [u8]> {
+        let part = first_part(self.rest?, self.separator);
+        self.rest = part.rest;
+        Some(part.bytes)
     }
 }
 
@@ -41,19 +61,5 @@ pub fn first_part<'a>(bytes: &'a [u8], separator: u8) -> Part<'a>
 pub fn nth_part<'a>(bytes: &'a [u8], separator: u8, number: usize) -> Option<&'a [u8]>
     ensures { Nth (parting separator bytes.now) number result }
 {
-    let mut rest = bytes;
-    let mut left = number;
-    loop {
-        let part = first_part(rest, separator);
-        if left == 0 {
-            return Some(part.bytes);
-        }
-        match part.rest {
-            None => return None,
-            Some(more) => {
-                rest = more;
-                left -= 1;
-            }
-        }
-    }
+    Parts::new(bytes, separator).nth(number)
 }

@@ -16,11 +16,10 @@ pub(crate) fn letters_end(text: &[u8], at: usize) -> usize
     requires { at ≤ length text.now }
     ensures { Letters text.now at result }
 {
-    let mut end = at;
-    while end < text.len() && text[end].is_ascii_lowercase() {
-        end += 1;
-    }
-    end
+    at + text[at..]
+        .iter()
+        .take_while(|byte| byte.is_ascii_lowercase())
+        .count()
 }
 
 /// The token at the place `at` and the place after it: none at the end of the text, and none at a byte that begins no
@@ -28,10 +27,7 @@ pub(crate) fn letters_end(text: &[u8], at: usize) -> usize
 pub fn next_token<'a>(text: &'a [u8], at: usize) -> Option<(Token<'a>, usize)>
     ensures { IsToken text.now at result }
 {
-    if at >= text.len() {
-        return None;
-    }
-    match text[at] as char {
+    match *text.get(at)? as char {
         sign @ ('!'
         | 'X'
         | 'Y'

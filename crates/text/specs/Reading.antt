@@ -3,6 +3,8 @@ use Rattle.std.specs.Prelude.{◌≡◌, ℕ, ◌+◌, ◌-◌, ◌<◌, ◌≤�
 use Rattle.sheet.specs.declared.line.Line.{Line}
 use Rattle.sheet.specs.declared.refusal.Refusal.{Refusal}
 use Rattle.sheet.specs.declared.refusal.Refusal.TheVariants.{Full}
+use Rattle.sheet.specs.declared.sealed.Sealed.{Sealed}
+use Rattle.sheet.specs.Sheets.{sealed_lines}
 use Rattle.text.specs.declared.sign.Prefix.{Prefix}
 use Rattle.text.specs.declared.sign.Infix.{Infix}
 use Rattle.text.specs.declared.fault.Fault.{Fault}
@@ -110,3 +112,8 @@ pub record Unambiguous (names : List (List ℕ)) (text : List ℕ) (ls : List Li
 -- Of the sheet's refusals none but that of a full sheet comes out.
 abbrev pub FullAlone : Result ℕ Fault → Type 0
 FullAlone r = (e : Refusal) (at : ℕ) → r ≡ Err (OfSheet e at) → e ≡ Full
+
+-- the rule of a text, on a sheet of its own, or its first fault
+abbrev pub Read : List (List ℕ) → List ℕ → Result Sealed Fault → Type 0
+Read names text (Ok s) = (r : Rule) × Fitting names text [] r × (sealed_lines s ≡ written [] r)
+Read names text (Err f) = FirstFault names text [] f

@@ -3,7 +3,7 @@ ghost use Rattle.std.specs.Prelude.{◌≡◌, ◌+◌, ◌<◌, ◌≤◌, leng
 ghost use Rattle.sheet.specs.Sheets.{lines_of};
 ghost use Rattle.text.specs.Guards.{Onward, held};
 ghost use Rattle.lexer.specs.Names.{Good, known, line_of};
-ghost use Rattle.text.specs.Reading.{FullAlone, Stands, Unambiguous, Verdict};
+ghost use Rattle.text.specs.Reading.{FullAlone, Read, Stands, Unambiguous, Verdict};
 ghost use Rattle.text.specs.Steps.{CloseAt, InfixAt, Outcome};
 ghost use Rattle.lexer.specs.Tokens.{Among, digits};
 
@@ -13,6 +13,7 @@ use crate::sign::{Infix, Prefix};
 use lexer::names::Names;
 use lexer::token::{Token, next_token};
 use sheet::draft::Draft;
+use sheet::sealed::Sealed;
 
 // The bytes that a rule text may have, and the levels of a rule.
 const LONGEST: usize = 4096;
@@ -162,4 +163,16 @@ pub fn read_rule(draft: &mut Draft, names: &Names, text: &[u8]) -> Result<u8, Fa
     }
     pending.accept();
     Ok(rule.line)
+}
+
+/// Reads the rule of the text onto a sheet of its own, and seals it.
+pub fn read_sheet(names: &Names, text: &[u8]) -> Result<Sealed, Fault>
+    ensures { Read (known names.now) text.now result }
+{
+    let mut draft = Draft::new();
+    let _ = read_rule(&mut draft, names, text)?;
+    let Ok(sheet) = draft.seal() else {
+        unreachable()
+    };
+    Ok(sheet)
 }

@@ -1,23 +1,17 @@
-use Rattle.std.proofs.Common.{◌≡◌, ℕ, sym, ◌∙◌, arith, below_more}
-use Rattle.std.proofs.lemmas.Slice.Eq.{slice_eq-Decides}
-use Rattle.lexer.specs.Names.{line_of}
-use Rattle.lexer.proofs.Naming.{few}
+use Rattle.std.proofs.Common.{rules, tests, ◌≡◌, sym, ◌∙◌, ℕ, List, subst}
+use Rattle.std.proofs.lemmas.Iterator.{IsFirst-from_position}
+use Rattle.lexer.proofs.Naming.{names_come, finds}
+use Rattle.lexer.specs.Names.{Finds, known, line_of}
 use Rattle.lexer.proofs.names.Names.find.Goals as goal
-use Rattle.std.proofs.lemmas.Bool.Decides.{Decides-eqb}
 
-pub returns-then-eq : goal.returns-then-eq
-returns-then-eq c =
-    let o = c.in-Some.ensures in
-    (o.0, sym o.1 ∙ (slice_eq-Decides Decides-eqb _ _ _ c.eq.ensures).0 c.if-eq.true, c.loop-other.invariant.1)
+pub returns-in_err-number : goal.returns-in_err-number
+returns-in_err-number c =
+    let name : List ℕ = c.args.name.now in
+    let f = finds (known c.args.self.now) name c.position.result (IsFirst-from_position c.position.new.self _ _ (λ (n : List ℕ). n ≡ name) (λ (n : List ℕ). n ≡ name → ⊥) c.position.ensures.ran (names_come c.iter.result (line_of c.args.self.now) c.iter.ensures.source c.iter.ensures.count) (λ x q k. search (rules, tests)) (λ x q k. search (rules, tests))) in
+    subst (Finds (known c.args.self.now) name) (c.in_err-number.was ∙ sym c.from_residual.ensures) f
 
-pub overflow_add-number : goal.overflow_add-number
-overflow_add-number c = omega (arith, few (line_of c.args.self.now), c.in-Some.ensures.0)
-
-pub loop-other-preserved : goal.loop-other-preserved
-loop-other-preserved c =
-    let o = c.in-Some.ensures in (
-      omega (arith, o.0),
-      below_more _ _ c.loop-other.invariant.1 (λ e.
-          let t = (slice_eq-Decides Decides-eqb _ _ _ c.eq.ensures).1 (o.1 ∙ e) in
-          let z : ◌≡◌ {A = ℕ} 0 1 = cc (t, c.if-eq.false) in omega arith),
-    )
+pub returns : goal.returns
+returns c =
+    let name : List ℕ = c.args.name.now in
+    let f = finds (known c.args.self.now) name c.position.result (IsFirst-from_position c.position.new.self _ _ (λ (n : List ℕ). n ≡ name) (λ (n : List ℕ). n ≡ name → ⊥) c.position.ensures.ran (names_come c.iter.result (line_of c.args.self.now) c.iter.ensures.source c.iter.ensures.count) (λ x q k. search (rules, tests)) (λ x q k. search (rules, tests))) in
+    subst (Finds (known c.args.self.now) name) c.in_ok-number.was f

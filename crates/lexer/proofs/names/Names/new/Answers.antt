@@ -1,32 +1,18 @@
-use Rattle.std.proofs.Common.{sym, refl, ◌∙◌, subst, arith, below_more}
-use Rattle.lexer.specs.Names.{IsName}
-use Rattle.lexer.proofs.Naming.{few, good_names, good_different, made_good, refuted}
+use Rattle.std.proofs.Common.{inl, arith, rules, tests, List, ℕ, ◌<◌}
+use Rattle.std.proofs.lemmas.Bool.Decides.{when_false}
+use Rattle.std.proofs.lemmas.Iterator.{cases_from_all}
+use Rattle.std.proofs.lemmas.Iterator.Consumers.{YieldsList-from_enumerate, YieldsList-from_first, YieldsList-at}
+use Rattle.lexer.specs.Names.{names_of, spaced, IsName, IsFirst}
+use Rattle.lexer.specs.Parts.{parts_left}
+use Rattle.lexer.proofs.Naming.{bad_part, parts_count, IsBad}
 use Rattle.lexer.proofs.names.Names.new.Goals as goal
-use Rattle.lexer.proofs.names.Names.new.Goals.{then-not-is_name-via-then-not-is_name, then-not-is_name-via-else-not-is_name+then-not-is_first}
 
-pub returns-in-Some : goal.returns-in-Some
-returns-in-Some c g = let f = g.few in omega (arith, f, c.in-Some.ensures.0)
+pub all-good-requires-clause-can : goal.all-good-requires-clause-can
+all-good-requires-clause-can c = (tt, tt, inl (grind (arith, c.new.ensures, c.enumerate.ensures.source, c.enumerate.ensures.count, parts_count c.args.bytes.now)))
 
-pub returns-then-not-is_name : goal.returns-then-not-is_name
-returns-then-not-is_name c g =
-    let line = c.args.bytes.now in
-    let o = c.in-Some-get.ensures in
-    elim c.then-not-is_name.branch [
-      | then-not-is_name-via-then-not-is_name w ↦ refuted _ w.if-not-is_name.true (c.is_name.ensures.1 (subst IsName (sym o.1) (good_names line g _ o.0)))
-      | then-not-is_name-via-else-not-is_name+then-not-is_first w ↦
-          refuted _ w.if-not-is_first.true (w.is_first.ensures.1 (o.0, sym o.1, (λ j lt e. good_different line g j _ lt o.0 (e ∙ o.1))))
-    ]
-
-pub overflow_add-number : goal.overflow_add-number
-overflow_add-number c = omega (arith, few c.args.bytes.now, c.in-Some-get.ensures.0)
-
-pub loop-name-preserved : goal.loop-name-preserved
-loop-name-preserved c =
-    let o = c.in-Some-get.ensures in (
-      omega (arith, o.0),
-      below_more _ _ c.loop-name.invariant.1
-          (subst IsName o.1 (c.is_name.ensures.0 c.if-not-is_name.false), (λ j lt e. (c.is_first.ensures.0 c.if-not-is_first.false).2 j lt (e ∙ sym o.1))),
-    )
-
-pub returns : goal.returns
-returns c = (refl, made_good _ _ c.in_default.ensures c.loop-name.invariant.0 c.in_default-get.ensures c.loop-name.invariant.1)
+pub returns-else-good : goal.returns-else-good
+returns-else-good c =
+    let line : List ℕ = c.args.bytes.now in
+    let road = YieldsList-from_enumerate (YieldsList-at c.enumerate.ensures.source (YieldsList-from_first (λ x. x.now) parts_left (spaced line) c.new.ensures)) c.enumerate.ensures.count in
+    let bad = when_false _ _ c.if-good.false (cases_from_all c.all-good.new.self _ _ (λ (p : ℕ × List ℕ). (p.0 < 32) × IsName p.1 × IsFirst (names_of line) p.1 p.0) (IsBad (names_of line)) c.all-good.ensures.ran road (λ x q k. search (rules, tests)) (λ x q k. search (rules, tests))) in
+    bad_part line bad.0 bad.1 bad.2
