@@ -1,3 +1,4 @@
+pub mod printing;
 pub mod reading;
 pub mod runs;
 

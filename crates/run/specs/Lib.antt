@@ -4,3 +4,4 @@ pub mod Writing
 pub mod Histories
 pub mod Law
 pub mod Story
+pub mod Printing

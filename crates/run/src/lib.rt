@@ -8,6 +8,7 @@ mod by_form;
 pub mod call;
 pub mod form;
 pub mod history;
+pub mod printing;
 pub mod refusal;
 mod rows;
 pub mod step;

@@ -3,3 +3,4 @@ pub mod Lending
 pub mod Straying
 pub mod Counting
 pub mod Refilling
+pub mod Narrowing

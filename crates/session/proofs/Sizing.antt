@@ -1,5 +1,5 @@
 -- No recording is made of numbers past 32 bits.
-use Rattle.std.proofs.Common.{◌≡◌, ℕ, ◌-◌, ◌^◌, ◌<◌, ◌≤◌, min, List, length, get_or, Some, None, Ok, Err, vec_items, Option, Result, Vec, sym, ◌∙◌, subst, map-id, arith, pow_mono}
+use Rattle.std.proofs.Common.{◌≡◌, ℕ, ◌-◌, ◌^◌, ◌<◌, ◌≤◌, min, List, length, get_or, None, Ok, Err, Option, Result, Vec, sym, subst, arith, pow_mono}
 use Rattle.std.specs.declared.alloc.Global.{Global}
 use Rattle.recording.proofs.Bits.{small_within}
 use Rattle.recording.specs.Made.{TapeMade, GappedMade, WheelMade}
@@ -11,6 +11,7 @@ use Rattle.recording.specs.declared.refusal.WheelRefusal.{WheelRefusal}
 use Rattle.recording.specs.declared.tape.Tape.{Tape}
 use Rattle.recording.specs.declared.wheel.Wheel.{Wheel}
 use Rattle.session.specs.Narrowing.{Narrowed}
+use Rattle.session.proofs.Narrowing.{below, past_one}
 
 past_mask : (signals stem cycle : ℕ) (masks : List ℕ) (k : ℕ) → k < length masks → 2 ^ 32 ≤ get_or masks k 0 → Fits signals stem cycle masks → ⊥
 past_mask signals stem cycle masks k inside past fits =
@@ -18,14 +19,10 @@ past_mask signals stem cycle masks k inside past fits =
     omega (arith, small_within signals masks fits.within k inside)
 
 -- numbers that were not narrowed to 32 bits are no masks
-pub no_masks : (signals stem cycle : ℕ) (masks : List ℕ) (o : Option (Vec ℕ Global)) → o ≡ None → Narrowed (2 ^ 32) (λ x. x) masks o → Fits signals stem cycle masks → ⊥
-no_masks signals stem cycle masks o e n =
-    let p = subst (Narrowed (2 ^ 32) (λ x. x) masks) e n in
+pub no_masks : (E : Type 0) (signals stem cycle : ℕ) (masks : List ℕ) (o : Option (Vec ℕ Global)) → o ≡ None → Narrowed {E = E} (below (2 ^ 32)) masks o → Fits signals stem cycle masks → ⊥
+no_masks E signals stem cycle masks o e n =
+    let p = past_one E (2 ^ 32) masks o e n in
     past_mask signals stem cycle masks p.0 p.1 p.2
-
--- numbers that were narrowed are the same
-pub same_numbers : (past : ℕ) (ns xs : List ℕ) (o : Option (Vec ℕ Global)) (v : Vec ℕ Global) → xs ≡ vec_items v → o ≡ Some v → Narrowed past (λ x. x) ns o → xs ≡ ns
-same_numbers past ns xs o v e is n = e ∙ sym (map-id (vec_items v)) ∙ subst (Narrowed past (λ x. x) ns) is n
 
 -- sizes, each of which counts as the largest number of 32 bits where it is past them
 module _ (a b c a' b' c' : ℕ) (is_a : a' ≡ min a (2 ^ 32 - 1)) (is_b : b' ≡ min b (2 ^ 32 - 1)) (is_c : c' ≡ min c (2 ^ 32 - 1)) where

@@ -13,11 +13,12 @@ use Rattle.machine.specs.declared.place.Machine.{Machine}
 use Rattle.checker.specs.declared.refusal.CheckRefusal.{CheckRefusal}
 use Rattle.checker.specs.declared.refusal.CheckRefusal.TheVariants.{NoSignal, BadShape, StrayBit}
 use Rattle.session.specs.Narrowing.{Narrowed}
+use Rattle.session.proofs.Narrowing.{below, past_one}
 
 -- a row that is past 64 bits has a stray bit
-pub strays : (m : Machine) (rows : List ℕ) (o : Option (Vec ℕ Global)) → o ≡ None → Narrowed (2 ^ 64) (λ x. x) rows o → Within (length (tables m).variables) rows → ⊥
-strays m rows o e n within =
-    let p = subst (Narrowed (2 ^ 64) (λ x. x) rows) e n in
+pub strays : (E : Type 0) (m : Machine) (rows : List ℕ) (o : Option (Vec ℕ Global)) → o ≡ None → Narrowed {E = E} (below (2 ^ 64)) rows o → Within (length (tables m).variables) rows → ⊥
+strays E m rows o e n within =
+    let p = past_one E (2 ^ 64) rows o e n in
     let few : length (tables m).variables ≤ 64 = omega (arith, variables_counted m, m.within.1) in
     let most : 2 ^ length (tables m).variables ≤ 2 ^ 64 = pow_mono few in
     omega (arith, small_within (length (tables m).variables) rows within p.0 p.1, p.2)

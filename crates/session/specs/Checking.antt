@@ -1,5 +1,5 @@
 -- What checking a run on a bench answers.
-use Rattle.std.specs.Prelude.{◌≡◌, ℕ, Bool, List, Ok, Err, Result}
+use Rattle.std.specs.Prelude.{◌≡◌, ℕ, Bool, List, Ok, Err, Some, None, Option, Result}
 use Rattle.recording.specs.Kind.{Kind}
 use Rattle.recording.specs.Kinds.{two}
 use Rattle.recording.specs.Made.{tape_word, wheel_word}
@@ -23,8 +23,8 @@ abbrev pub Checks : (K : Kind) {V : Type 0} → (V → K.Value) → Tables → W
 Checks K means m w rows back a = (r : Result Bool CheckRefusal) × machine.Answer K means m w rows back r × (a ≡ told r)
 
 -- a run is checked on a two-valued recording alone
-abbrev pub OnRecorded : Recorded → Tables → List ℕ → ℕ → Answer → Type 0
-OnRecorded recorded.Nothing m rows back a = a ≡ answer.NoRecording
-OnRecorded (recorded.Plain t) m rows back a = Checks two (λ x. x) m (tape_word t) rows back a
-OnRecorded (recorded.Gapped t) m rows back a = a ≡ answer.NotTwoValued
-OnRecorded (recorded.Turning x) m rows back a = Checks two (λ x. x) m (wheel_word x) rows back a
+abbrev pub OnRecorded : Option Recorded → Tables → List ℕ → ℕ → Answer → Type 0
+OnRecorded None m rows back a = a ≡ answer.NoRecording
+OnRecorded (Some (recorded.Plain t)) m rows back a = Checks two (λ x. x) m (tape_word t) rows back a
+OnRecorded (Some (recorded.Gapped t)) m rows back a = a ≡ answer.NotTwoValued
+OnRecorded (Some (recorded.Turning x)) m rows back a = Checks two (λ x. x) m (wheel_word x) rows back a

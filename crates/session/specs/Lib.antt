@@ -5,3 +5,4 @@ pub mod Narrowing
 pub mod Benches
 pub mod Checking
 pub mod Answering
+pub mod Printing

@@ -1,6 +1,6 @@
 -- What a call of a script on its sheet answers, and what it leaves of all that is lent: what the library's call does, with
 -- the recording of the bench and the first so many cells and rows.
-use Rattle.std.specs.Prelude.{◌≡◌, Bool, List, [], ◌∷◌, ◌++◌, take, drop, vec_items}
+use Rattle.std.specs.Prelude.{◌≡◌, Bool, List, [], ◌∷◌, ◌++◌, take, drop, Some, None, Option, vec_items}
 use Rattle.recording.specs.Kinds.{two, three}
 use Rattle.recording.specs.Made.{tape_word, gapped_word, wheel_word}
 use Rattle.recording.specs.Word.{Word}
@@ -66,8 +66,8 @@ module _ (l : Ledger) (c : SheetCall) (a : Answer) (m m' : Tables) (before after
     pub lends : after.lent ≡ before.lent
 
 -- with the recording that there is
-abbrev pub OnBench : Recorded → Ledger → SheetCall → Answer → Tables → Tables → Bench → Bench → Type 0
-OnBench recorded.Nothing l c a m m' before after = OnFlags l c a m m' before after []
-OnBench (recorded.Plain t) l c a m m' before after = OnFlags l c a m m' before after (tape_word t ∷ [])
-OnBench (recorded.Gapped t) l c a m m' before after = OnLevels l c a m m' before after (gapped_word t ∷ [])
-OnBench (recorded.Turning x) l c a m m' before after = OnFlags l c a m m' before after (wheel_word x ∷ [])
+abbrev pub OnBench : Option Recorded → Ledger → SheetCall → Answer → Tables → Tables → Bench → Bench → Type 0
+OnBench None l c a m m' before after = OnFlags l c a m m' before after []
+OnBench (Some (recorded.Plain t)) l c a m m' before after = OnFlags l c a m m' before after (tape_word t ∷ [])
+OnBench (Some (recorded.Gapped t)) l c a m m' before after = OnLevels l c a m m' before after (gapped_word t ∷ [])
+OnBench (Some (recorded.Turning x)) l c a m m' before after = OnFlags l c a m m' before after (wheel_word x ∷ [])

@@ -1,3 +1,5 @@
+pub mod printing;
+
 use recording::truth::Ternary;
 use run::answer::Form;
 use run::writing::Written;

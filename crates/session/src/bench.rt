@@ -7,10 +7,9 @@ pub mod answering;
 pub mod checking;
 pub mod making;
 
-/// The recording of a script, once there is one.
+/// The recording of a script.
 #[derive(Clone, Copy)]
 pub enum Recorded {
-    Nothing,
     Plain(Tape),
     Gapped(GappedTape),
     Turning(Wheel),
@@ -27,7 +26,7 @@ pub struct Lending {
 /// judge with, cells and rows to write runs out with, and how many of them are lent.
 #[derive(Drop)]
 pub struct Bench {
-    pub recorded: Recorded,
+    pub recorded: Option<Recorded>,
     pub flags: Vec<bool>,
     pub levels: Vec<Ternary>,
     pub bits: Vec<bool>,

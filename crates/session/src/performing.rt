@@ -1,9 +1,10 @@
 // Makes a call of a script on its sheet.
-ghost use Rattle.std.specs.Prelude.{◌≡◌};
+ghost use Rattle.std.specs.Prelude.{◌≡◌, [], ◌∷◌, map};
+ghost use Rattle.recording.specs.Made.{gapped_word};
 ghost use Rattle.machine.specs.Machines.{tables};
 ghost use Rattle.run.specs.Histories.{ledger_of, step as next_ledger};
 ghost use Rattle.run.specs.Story.{heard, lent as lent_of};
-ghost use Rattle.session.specs.Performing.{OnBench, Performs};
+ghost use Rattle.session.specs.Performing.{OnBench, OnFlags, OnLevels, Performs};
 ghost use Rattle.session.specs.Replies.{made_as};
 
 use crate::among::AmongThree;
@@ -12,6 +13,7 @@ use crate::bench::{Bench, Lending, Recorded};
 use crate::replying::{call_of, filled_by, told};
 use asked::call::SheetCall;
 use machine::place::Machine;
+use recording::gapped::GappedTape;
 use recording::recording::Recording;
 use recording::tape::Tape;
 use recording::truth::TwoValued;
@@ -54,9 +56,9 @@ where
         judged,
         written,
         machine,
-        &mut cells[0..cell_count],
-        &mut bits[0..bit_count],
-        &mut rows[0..row_count],
+        &mut cells[..cell_count],
+        &mut bits[..bit_count],
+        &mut rows[..row_count],
     );
     Stepped {
         sheet: stepped.sheet,
@@ -64,73 +66,71 @@ where
     }
 }
 
+// Makes the call with the flags, on two-valued recordings.
+fn on_flags<R: Recording<Truth = bool>>(
+    sheet: Sheet,
+    call: SheetCall,
+    recordings: &[R],
+    machine: &mut Machine,
+    bench: &mut Bench,
+) -> Stepped
+    ensures ledger { ledger_of result.sheet ≡ next_ledger (ledger_of sheet) (made_as call) }
+    ensures performs { OnFlags (ledger_of sheet) call result.answer (tables machine.old) (tables machine.new) bench.old bench.new (map R.Recording.word recordings.now) }
+{
+    let lent = bench.lent;
+    perform_with(
+        sheet,
+        call,
+        Answer::NoRecording,
+        recordings,
+        recordings,
+        lent,
+        machine,
+        bench.flags.as_mut_slice(),
+        bench.bits.as_mut_slice(),
+        bench.rows.as_mut_slice(),
+    )
+}
+
+// Makes the call with the levels, on a gapped tape; no run is written out on it.
+fn on_levels(
+    sheet: Sheet,
+    call: SheetCall,
+    tape: GappedTape,
+    machine: &mut Machine,
+    bench: &mut Bench,
+) -> Stepped
+    ensures ledger { ledger_of result.sheet ≡ next_ledger (ledger_of sheet) (made_as call) }
+    ensures performs { OnLevels (ledger_of sheet) call result.answer (tables machine.old) (tables machine.new) bench.old bench.new (gapped_word tape ∷ []) }
+{
+    let lent = bench.lent;
+    let none: [Tape; 0] = [];
+    perform_with(
+        sheet,
+        call,
+        Answer::NotTwoValued,
+        &[tape],
+        &none,
+        lent,
+        machine,
+        bench.levels.as_mut_slice(),
+        bench.bits.as_mut_slice(),
+        bench.rows.as_mut_slice(),
+    )
+}
+
 /// Makes the call on the sheet, with the recording of the bench, if there is one, and with what the bench lends.
 pub fn perform(sheet: Sheet, call: SheetCall, machine: &mut Machine, bench: &mut Bench) -> Stepped
     ensures ledger { ledger_of result.sheet ≡ next_ledger (ledger_of sheet) (made_as call) }
     ensures performs { OnBench bench.old.recorded (ledger_of sheet) call result.answer (tables machine.old) (tables machine.new) bench.old bench.new }
 {
-    let lent = bench.lent;
     match bench.recorded {
-        Recorded::Nothing => {
+        None => {
             let none: [Tape; 0] = [];
-            perform_with(
-                sheet,
-                call,
-                Answer::NoRecording,
-                &none,
-                &none,
-                lent,
-                machine,
-                bench.flags.as_mut_slice(),
-                bench.bits.as_mut_slice(),
-                bench.rows.as_mut_slice(),
-            )
+            on_flags(sheet, call, &none, machine, bench)
         }
-        Recorded::Plain(tape) => {
-            let one = [tape];
-            perform_with(
-                sheet,
-                call,
-                Answer::NoRecording,
-                &one,
-                &one,
-                lent,
-                machine,
-                bench.flags.as_mut_slice(),
-                bench.bits.as_mut_slice(),
-                bench.rows.as_mut_slice(),
-            )
-        }
-        Recorded::Gapped(tape) => {
-            let one = [tape];
-            let none: [Tape; 0] = [];
-            perform_with(
-                sheet,
-                call,
-                Answer::NotTwoValued,
-                &one,
-                &none,
-                lent,
-                machine,
-                bench.levels.as_mut_slice(),
-                bench.bits.as_mut_slice(),
-                bench.rows.as_mut_slice(),
-            )
-        }
-        Recorded::Turning(wheel) => {
-            let one = [wheel];
-            perform_with(
-                sheet,
-                call,
-                Answer::NoRecording,
-                &one,
-                &one,
-                lent,
-                machine,
-                bench.flags.as_mut_slice(),
-                bench.bits.as_mut_slice(),
-                bench.rows.as_mut_slice(),
-            )
-        }
+        Some(Recorded::Plain(tape)) => on_flags(sheet, call, &[tape], machine, bench),
+        Some(Recorded::Gapped(tape)) => on_levels(sheet, call, tape, machine, bench),
+        Some(Recorded::Turning(wheel)) => on_flags(sheet, call, &[wheel], machine, bench),
     }
 }

@@ -1,7 +1,8 @@
 // What a script is told of the library's answers.
 ghost use Rattle.std.specs.Prelude.{◌≡◌, map};
 ghost use Rattle.run.specs.Histories.{ledger_of};
-ghost use Rattle.session.specs.Replies.{done_as, filled_on, made_as, told as told_as};
+ghost use Rattle.session.specs.Replies.{done_as, filled_on, made_as, samples_on as counted_on, told as told_as};
+ghost use Rattle.sheet.specs.Sheets.{sealed_lines};
 
 use crate::among::AmongThree;
 use crate::answer::{Answer, Filled, Judged};
@@ -12,6 +13,7 @@ use run::answer::Answer as Reply;
 use run::call::Call;
 use run::form::Sheet;
 use run::writing::Written;
+use sheet::sealed::Sealed;
 
 // The library's call: a script has one recording at most, of number 0.
 pub(crate) fn call_of(call: SheetCall) -> Call
@@ -28,6 +30,16 @@ pub(crate) fn call_of(call: SheetCall) -> Call
     }
 }
 
+// How many samples a sheet is judged on with the first of some recordings.
+fn samples_on<R: Recording>(sheet: &Sealed, judged: &[R]) -> usize
+    ensures { result ≡ counted_on (sealed_lines sheet.now) (map R.word judged.now) }
+{
+    match judged {
+        [] => 0,
+        [first, ..] => reach_of(sheet, first).samples,
+    }
+}
+
 // How much judging fills, where it can be called.
 pub(crate) fn filled_by<R: Recording>(sheet: &Sheet, judged: &[R]) -> Filled
     ensures { result ≡ filled_on (ledger_of sheet.now) (map R.word judged.now) }
@@ -37,16 +49,10 @@ pub(crate) fn filled_by<R: Recording>(sheet: &Sheet, judged: &[R]) -> Filled
             lines: 0,
             samples: 0,
         },
-        Sheet::Shut(sealed) => {
-            let lines = sealed.lines().len();
-            if judged.len() == 0 {
-                return Filled { lines, samples: 0 };
-            }
-            Filled {
-                lines,
-                samples: reach_of(sealed, &judged[0]).samples,
-            }
-        }
+        Sheet::Shut(sealed) => Filled {
+            lines: sealed.lines().len(),
+            samples: samples_on(sealed, judged),
+        },
     }
 }
 
@@ -56,12 +62,7 @@ fn done(call: SheetCall) -> Answer
 {
     match call {
         SheetCall::Translate => Answer::Tables,
-        SheetCall::Write(_, _, _)
-        | SheetCall::Strike
-        | SheetCall::Seal
-        | SheetCall::Reopen
-        | SheetCall::Judge
-        | SheetCall::Run => Answer::Done,
+        _ => Answer::Done,
     }
 }
 

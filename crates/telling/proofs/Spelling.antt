@@ -1,12 +1,8 @@
 -- One item more of a text, one row more of the samples.
-use Rattle.std.proofs.Common.{◌≡◌, ℕ, suc, ◌+◌, ◌-◌, ◌<◌, min, List, [], ◌∷◌, ◌++◌, length, get_or, take, drop, sym, ap, ◌∙◌, append_assoc, append-nil, add-one, arith, drop-cons}
+use Rattle.std.proofs.Common.{◌≡◌, ℕ, suc, ◌+◌, ◌<◌, List, [], ◌∷◌, ◌++◌, length, get_or, take, drop, sym, ap, ◌∙◌, append_assoc, append-nil, add-one, drop-cons}
 use lib.Seq.{drop-length}
-use Rattle.std.specs.List.{between}
-use Rattle.std.proofs.lemmas.List.{take_rest}
-use Rattle.std.proofs.lemmas.Slice.{first_rest}
 use Rattle.recording.specs.declared.truth.Ternary.{Ternary}
-use Rattle.telling.specs.Truths.{truth_text, each, more_text, row_text, rows_text}
-use Rattle.session.proofs.Lending.{take_lent, drop_lent}
+use Rattle.telling.specs.Truths.{each, row_text, rows_text}
 
 module _ {X : Type 0} (text : X → List ℕ) where
   pub each_more : (xs : List X) (k : ℕ) (x d : X) (bs all : List ℕ) → k < length xs → get_or xs k d ≡ x
@@ -25,22 +21,15 @@ module _ {X : Type 0} (text : X → List ℕ) where
       ∙ whole
 
 module _ {V : Type 0} (three : V → Ternary) where
-  pub row_is : (xs : List V) (x : V) → 0 < length xs → get_or xs 0 x ≡ x → truth_text (three x) ++ more_text three (between 1 (length xs) xs) ≡ row_text three xs
-  row_is xs x some e =
-      ap (λ y. truth_text (three y) ++ more_text three (between 1 (length xs) xs)) (sym e) ∙ sym (ap (row_text three) (first_rest xs x some))
-
   -- n is how many samples are left before this one, m after it
-  pub sample_more : (lines n m width : ℕ) (xs : List V) (bs all : List ℕ) → width ≡ min lines (length xs) → n ≡ suc m
-      → bs ++ rows_text three n lines xs ≡ all → (bs ++ (row_text three (take (width - 0) xs) ++ (10 ∷ []))) ++ rows_text three m lines (between width (length xs) xs) ≡ all
-  sample_more lines n m width xs bs all is e whole =
-      append_assoc bs (row_text three (take (width - 0) xs) ++ (10 ∷ [])) _
-      ∙ ap (λ r. bs ++ r) (append_assoc (row_text three (take (width - 0) xs)) (10 ∷ []) _)
-      ∙ (λ i. bs ++ (row_text three (take_lent xs lines width is i) ++ (10 ∷ rows_text three m lines (rest i))))
+  pub sample_more : (lines n m : ℕ) (xs row more : List V) (bs all : List ℕ) → row ≡ take lines xs → more ≡ drop lines xs → n ≡ suc m
+      → bs ++ rows_text three n lines xs ≡ all → (bs ++ (row_text three row ++ (10 ∷ []))) ++ rows_text three m lines more ≡ all
+  sample_more lines n m xs row more bs all is left e whole =
+      append_assoc bs (row_text three row ++ (10 ∷ [])) _
+      ∙ ap (λ r. bs ++ r) (append_assoc (row_text three row) (10 ∷ []) _)
+      ∙ (λ i. bs ++ (row_text three (is i) ++ (10 ∷ rows_text three m lines (left i))))
       ∙ ap (λ k. bs ++ rows_text three k lines xs) (sym e)
       ∙ whole
-    where
-      rest : between width (length xs) xs ≡ drop lines xs
-      rest = take_rest xs width ∙ ap (λ k. drop k xs) (omega arith) ∙ drop_lent xs lines width is
 
   pub samples_done : (lines n : ℕ) (xs : List V) (bs all : List ℕ) → n ≡ 0 → bs ++ rows_text three n lines xs ≡ all → bs ≡ all
   samples_done lines n xs bs all e whole = sym (append-nil bs) ∙ ap (λ k. bs ++ rows_text three k lines xs) (sym e) ∙ whole

@@ -1,12 +1,7 @@
 -- Values and rows as text.
-use Rattle.std.specs.Prelude.{ℕ, zero, suc, List, [], ◌∷◌, ◌++◌, take, drop, codes, decimal}
+use Rattle.std.specs.Prelude.{ℕ, zero, suc, List, [], ◌∷◌, ◌++◌, take, drop, decimal}
 use Rattle.recording.specs.declared.truth.Ternary.{Ternary}
-use Rattle.recording.specs.declared.truth.Ternary.TheVariants.{No, Lost, Yes}
-
-abbrev pub truth_text : Ternary → List ℕ
-truth_text No = codes "no"
-truth_text Lost = codes "lost"
-truth_text Yes = codes "yes"
+use Rattle.recording.specs.Printed.{truth_text}
 
 -- the texts of items, one after the other
 abbrev pub each : {X : Type 0} → (X → List ℕ) → List X → List ℕ

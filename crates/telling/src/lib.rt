@@ -4,4 +4,3 @@
 pub mod display;
 pub mod rows;
 pub mod told;
-pub mod truth;

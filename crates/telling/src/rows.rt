@@ -5,7 +5,6 @@ ghost use Rattle.telling.specs.Truths.{more_text, numbers_text, row_text, rows_t
 ghost use Rattle.telling.specs.Shown.{judged_text, run_text};
 
 use crate::told::{JudgedRows, RunRows};
-use crate::truth::Spelled;
 use session::among::AmongThree;
 use session::answer::Filled;
 use session::bench::{Bench, Recorded};
@@ -16,8 +15,7 @@ fn write_more<T: AmongThree, W: fmt::Write>(values: &[T], f: &mut fmt::Formatter
     ensures { WritesOnOk W.Write.write_str_gives f.old result (more_text T.AmongThree.three values.now) f.new }
 {
     for value in values {
-        let value = Spelled(value.as_ternary());
-        write!(f, " {value}")?;
+        write!(f, " {}", value.as_ternary())?;
     }
     Ok(())
 }
@@ -26,12 +24,11 @@ fn write_more<T: AmongThree, W: fmt::Write>(values: &[T], f: &mut fmt::Formatter
 fn write_row<T: AmongThree, W: fmt::Write>(values: &[T], f: &mut fmt::Formatter<W>) -> fmt::Result
     ensures { WritesOnOk W.Write.write_str_gives f.old result (row_text T.AmongThree.three values.now) f.new }
 {
-    if values.len() == 0 {
+    let Some((first, more)) = values.split_first() else {
         return Ok(());
-    }
-    let first = Spelled(values[0].as_ternary());
-    write!(f, "{first}")?;
-    write_more(&values[1..values.len()], f)
+    };
+    write!(f, "{}", first.as_ternary())?;
+    write_more(more, f)
 }
 
 // Writes so many samples of so many lines, each with its line end.
@@ -43,13 +40,14 @@ fn write_rows<T: AmongThree, W: fmt::Write>(
 ) -> fmt::Result
     ensures { WritesOnOk W.Write.write_str_gives f.old result (rows_text T.AmongThree.three samples lines cells.now) f.new }
 {
+    // not by `chunks`: where cells run out, and where there are no lines, rows are empty
     let mut rest = cells;
-    for t in 0..samples {
+    for _t in 0..samples {
         let width = lines.min(rest.len());
-        write_row(&rest[0..width], f)?;
+        let (row, more) = rest.split_at(width);
+        write_row(row, f)?;
         writeln!(f, "")?;
-        let size = rest.len();
-        rest = &rest[width..size];
+        rest = more;
     }
     Ok(())
 }
@@ -60,10 +58,13 @@ impl fmt::Display for JudgedRows<'_> {
     fn fmt<W: fmt::Write>(&self, f: &mut fmt::Formatter<W>) -> fmt::Result {
         let Filled { lines, samples } = self.filled;
         match self.bench.recorded {
-            Recorded::Nothing => Ok(()),
-            Recorded::Plain(_) => write_rows(self.bench.flags.as_slice(), lines, samples, f),
-            Recorded::Gapped(_) => write_rows(self.bench.levels.as_slice(), lines, samples, f),
-            Recorded::Turning(_) => write_rows(self.bench.flags.as_slice(), lines, samples, f),
+            None => Ok(()),
+            Some(Recorded::Plain(_)) | Some(Recorded::Turning(_)) => {
+                write_rows(self.bench.flags.as_slice(), lines, samples, f)
+            }
+            Some(Recorded::Gapped(_)) => {
+                write_rows(self.bench.levels.as_slice(), lines, samples, f)
+            }
         }
     }
 }
@@ -84,6 +85,6 @@ impl fmt::Display for RunRows<'_> {
     fn fmt<W: fmt::Write>(&self, f: &mut fmt::Formatter<W>) -> fmt::Result {
         let rows = self.bench.rows.as_slice();
         let count = self.count.min(rows.len());
-        write_numbers(&rows[0..count], f)
+        write_numbers(&rows[..count], f)
     }
 }

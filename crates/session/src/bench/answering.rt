@@ -4,10 +4,11 @@ ghost use Rattle.machine.specs.Machines.{tables};
 ghost use Rattle.session.specs.Answering.{Answers};
 
 use crate::answer::Answer;
-use crate::bench::Bench;
 use crate::bench::making::{gapped_of, tape_of, wheel_of};
+use crate::bench::{Bench, Recorded};
 use asked::call::BenchCall;
 use machine::place::Machine;
+use recording::refusal::{TapeRefusal, WheelRefusal};
 use std::alloc::{AllocError, Global};
 
 impl Bench {
@@ -24,15 +25,24 @@ impl Bench {
         match call {
             BenchCall::Tape(sizes, masks) => {
                 let made = tape_of(heap, sizes, masks.as_slice())?;
-                Ok(self.put_tape(made))
+                Ok(self.put(made.map(Recorded::Plain).map_err(TapeRefusal::number)))
             }
             BenchCall::Gapped(sizes, masks, lost) => {
                 let made = gapped_of(heap, sizes, masks.as_slice(), lost.as_slice())?;
-                Ok(self.put_gapped(made))
+                Ok(self.put(made.map(Recorded::Gapped).map_err(TapeRefusal::number)))
             }
-            BenchCall::Wheel(teeth, gap, start) => Ok(self.put_wheel(wheel_of(teeth, gap, start))),
-            BenchCall::Cells(count) => Ok(self.lend_cells(count)),
-            BenchCall::Rows(count) => Ok(self.lend_rows(count)),
+            BenchCall::Wheel(teeth, gap, start) => {
+                let made = wheel_of(teeth, gap, start);
+                Ok(self.put(made.map(Recorded::Turning).map_err(WheelRefusal::number)))
+            }
+            BenchCall::Cells(count) => {
+                self.lent.cells = count;
+                Ok(Answer::Done)
+            }
+            BenchCall::Rows(count) => {
+                self.lent.rows = count;
+                Ok(Answer::Done)
+            }
             BenchCall::Check(back, rows) => self.check(heap, machine, back, rows.as_slice()),
         }
     }

@@ -18,10 +18,10 @@ use std::alloc::{AllocError, Global};
 fn told(checked: Result<bool, CheckRefusal>) -> Answer
     ensures { result ≡ told_as checked }
 {
-    match checked {
-        Ok(accepting) => Answer::Accepting(accepting),
-        Err(refusal) => Answer::Refused(refusal.number()),
-    }
+    checked.map_or_else(
+        |refusal| Answer::Refused(refusal.number()),
+        Answer::Accepting,
+    )
 }
 
 // What checking any rows answers that are as many as these and have a stray bit.
@@ -35,10 +35,7 @@ where
     R::Truth: TwoValued,
     ensures { (rows : List ℕ) → length rows ≡ length blank.now → (Within (length (tables machine.now).variables) rows → ⊥) → CheckAnswer R.Truth.Truth.kind R.Truth.Truth.means (tables machine.now) (R.Recording.word recording.now) rows back result }
 {
-    match check(machine, recording, blank, back) {
-        Ok(_) => Err(CheckRefusal::StrayBit),
-        Err(refusal) => Err(refusal),
-    }
+    check(machine, recording, blank, back).and_then(|_| Err(CheckRefusal::StrayBit))
 }
 
 // Rows and a place of any size.
@@ -74,10 +71,10 @@ impl Bench {
         ensures { IfOk result (OnRecorded self.now.recorded (tables machine.now) rows.now back) }
     {
         match self.recorded {
-            Recorded::Nothing => Ok(Answer::NoRecording),
-            Recorded::Plain(tape) => check_numbers(heap, machine, &tape, rows, back),
-            Recorded::Gapped(_) => Ok(Answer::NotTwoValued),
-            Recorded::Turning(wheel) => check_numbers(heap, machine, &wheel, rows, back),
+            None => Ok(Answer::NoRecording),
+            Some(Recorded::Plain(tape)) => check_numbers(heap, machine, &tape, rows, back),
+            Some(Recorded::Gapped(_)) => Ok(Answer::NotTwoValued),
+            Some(Recorded::Turning(wheel)) => check_numbers(heap, machine, &wheel, rows, back),
         }
     }
 }

@@ -1,7 +1,7 @@
-// A new bench, the recordings that are made from the numbers of a script, and the cells that are lent.
+// A new bench, and the recordings that are made from the numbers of a script.
 ghost use Rattle.std.specs.Prelude.{◌≡◌, IfOk};
 ghost use Rattle.recording.specs.Made.{TapeMade, GappedMade, WheelMade};
-ghost use Rattle.session.specs.Benches.{Fresh, taped, gapped, wheeled, lending_cells, lending_rows};
+ghost use Rattle.session.specs.Benches.{Fresh, put as put_on};
 
 use crate::answer::Answer;
 use crate::bench::{Bench, Lending, Recorded};
@@ -75,7 +75,7 @@ impl Bench {
         let bits = vec![in heap; false; cells]?;
         let zeros = vec![in heap; 0u64; rows]?;
         Ok(Bench {
-            recorded: Recorded::Nothing,
+            recorded: None,
             flags,
             levels,
             bits,
@@ -87,58 +87,16 @@ impl Bench {
         })
     }
 
-    // The recording is this tape from now on; one that is not made leaves the recording that was there.
-    pub(crate) fn put_tape(&mut self, made: Result<Tape, TapeRefusal>) -> Answer
-        ensures { (result, self.new) ≡ taped made self.old }
+    // The recording is this one from now on; a refusal, by its number, leaves the recording that was there.
+    pub(crate) fn put(&mut self, made: Result<Recorded, u8>) -> Answer
+        ensures { (result, self.new) ≡ put_on made self.old }
     {
         match made {
-            Ok(tape) => {
-                self.recorded = Recorded::Plain(tape);
+            Ok(recorded) => {
+                self.recorded = Some(recorded);
                 Answer::Done
             }
-            Err(refusal) => Answer::Refused(refusal.number()),
+            Err(number) => Answer::Refused(number),
         }
-    }
-
-    // The same for a gapped tape.
-    pub(crate) fn put_gapped(&mut self, made: Result<GappedTape, TapeRefusal>) -> Answer
-        ensures { (result, self.new) ≡ gapped made self.old }
-    {
-        match made {
-            Ok(tape) => {
-                self.recorded = Recorded::Gapped(tape);
-                Answer::Done
-            }
-            Err(refusal) => Answer::Refused(refusal.number()),
-        }
-    }
-
-    // The same for a wheel.
-    pub(crate) fn put_wheel(&mut self, made: Result<Wheel, WheelRefusal>) -> Answer
-        ensures { (result, self.new) ≡ wheeled made self.old }
-    {
-        match made {
-            Ok(wheel) => {
-                self.recorded = Recorded::Turning(wheel);
-                Answer::Done
-            }
-            Err(refusal) => Answer::Refused(refusal.number()),
-        }
-    }
-
-    // So many cells are lent from now on.
-    pub(crate) fn lend_cells(&mut self, count: u128) -> Answer
-        ensures { (result, self.new) ≡ lending_cells count self.old }
-    {
-        self.lent.cells = count;
-        Answer::Done
-    }
-
-    // So many rows are lent from now on.
-    pub(crate) fn lend_rows(&mut self, count: u128) -> Answer
-        ensures { (result, self.new) ≡ lending_rows count self.old }
-    {
-        self.lent.rows = count;
-        Answer::Done
     }
 }

@@ -8,8 +8,8 @@ use Rattle.session.specs.Replies.{made_as, told}
 use Rattle.session.proofs.Lending.{take_lent, drop_lent}
 use Rattle.session.proofs.performing.perform_with.Goals as goal
 
-pub returns : goal.returns
-returns g c =
+pub returns-clause-performs : goal.returns-clause-performs
+returns-clause-performs g c =
     let judged = heard g.R.Truth.Truth.kind g.R.Truth.Truth.means g.R.Recording.word c.args.judged.now in
     let written = heard g.B.Truth.Truth.kind g.B.Truth.Truth.means g.B.Recording.word c.args.written.now in
     let l = ledger_of c.args.sheet in
@@ -21,23 +21,20 @@ returns g c =
     let bits = c.args.bits.now in
     let rows = c.args.rows.now in
     record {
-      ledger = ledger;
-      performs = record {
-        reply = made.result.answer;
-        left = left;
-        tells =
-            subst (λ (q : Call × Lent g.row.R-Truth.Denot g.row.B-Truth.Denot). Tells judged written l.form l q.0 made.result.answer q.1 left)
-            (λ i. (c.call_of.ensures i, lent (tables c.args.machine.now) (take_lent cells p.cells c.min-cell_count.result c.min-cell_count.ensures i) (take_lent bits p.cells c.min-bit_count.result c.min-bit_count.ensures i) (take_lent rows p.rows c.min-row_count.result c.min-row_count.ensures i)))
-            made.ensures.tells;
-        leaves = λ i.
-            lent (tables made.new.machine)
-            (made.new.cells ++ drop_lent cells p.cells c.min-cell_count.result c.min-cell_count.ensures i)
-            (made.new.bits ++ drop_lent bits p.cells c.min-bit_count.result c.min-bit_count.ensures i)
-            (made.new.rows ++ drop_lent rows p.rows c.min-row_count.result c.min-row_count.ensures i);
-        answers =
-            c.told.ensures
-            ∙ ap (λ f. told g.R.Truth.AmongThree.three g.B.Truth.AmongThree.three c.args.call f c.args.lacking made.result.answer) c.filled_by-filled.ensures;
-        before = made.ensures.before;
-        after = subst (WhileSealed g.R.Truth.Truth.kind g.B.Truth.Truth.kind) ledger made.ensures.after;
-      };
+      reply = made.result.answer;
+      left = left;
+      tells =
+          subst (λ (q : Call × Lent g.row.R-Truth.Denot g.row.B-Truth.Denot). Tells judged written l.form l q.0 made.result.answer q.1 left)
+          (λ i. (c.call_of.ensures i, lent (tables c.args.machine.now) (take_lent cells p.cells c.min-cell_count.result c.min-cell_count.ensures i) (take_lent bits p.cells c.min-bit_count.result c.min-bit_count.ensures i) (take_lent rows p.rows c.min-row_count.result c.min-row_count.ensures i)))
+          made.ensures.tells;
+      leaves = λ i.
+          lent (tables made.new.machine)
+          (made.new.cells ++ drop_lent cells p.cells c.min-cell_count.result c.min-cell_count.ensures i)
+          (made.new.bits ++ drop_lent bits p.cells c.min-bit_count.result c.min-bit_count.ensures i)
+          (made.new.rows ++ drop_lent rows p.rows c.min-row_count.result c.min-row_count.ensures i);
+      answers =
+          c.told.ensures
+          ∙ ap (λ f. told g.R.Truth.AmongThree.three g.B.Truth.AmongThree.three c.args.call f c.args.lacking made.result.answer) c.filled_by-filled.ensures;
+      before = made.ensures.before;
+      after = subst (WhileSealed g.R.Truth.Truth.kind g.B.Truth.Truth.kind) ledger made.ensures.after;
     }

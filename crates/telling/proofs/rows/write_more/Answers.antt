@@ -1,6 +1,6 @@
 use Rattle.std.proofs.Common.{◌∷◌, ◌++◌, is_ok, sym, ap, arith}
 use Rattle.std.proofs.Output.{has_written_append, has_written_of_eq}
-use Rattle.telling.specs.Truths.{truth_text}
+use Rattle.recording.specs.Printed.{truth_text}
 use Rattle.telling.proofs.Spelling.{each_more, each_done}
 use Rattle.telling.proofs.rows.write_more.Goals as goal
 

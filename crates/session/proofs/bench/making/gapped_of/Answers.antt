@@ -1,18 +1,19 @@
 use Rattle.std.proofs.Common.{◌^◌}
-use Rattle.session.proofs.Sizing.{no_masks, same_numbers, gapped_sized}
+use Rattle.session.proofs.Narrowing.{same_numbers}
+use Rattle.session.proofs.Sizing.{no_masks, gapped_sized}
 use Rattle.session.proofs.bench.making.gapped_of.Goals as goal
 
 pub returns-in_default : goal.returns-in_default
 returns-in_default c fits _ =
-    no_masks c.args.sizes.signals c.args.sizes.stem c.args.sizes.cycle c.args.masks.now _ c.in_default.is c.in_ok-masks.ensures fits
+    no_masks _ c.args.sizes.signals c.args.sizes.stem c.args.sizes.cycle c.args.masks.now _ c.in_default.is c.in_ok-masks.ensures fits
 
 pub returns-in_default-2 : goal.returns-in_default-2
 returns-in_default-2 c _ fits =
-    no_masks c.args.sizes.signals c.args.sizes.stem c.args.sizes.cycle c.args.lost.now _ c.in_default-2.is c.in_ok-lost.ensures fits
+    no_masks _ c.args.sizes.signals c.args.sizes.stem c.args.sizes.cycle c.args.lost.now _ c.in_default-2.is c.in_ok-lost.ensures fits
 
 pub returns : goal.returns
 returns c =
     gapped_sized c.args.sizes.signals c.args.sizes.stem c.args.sizes.cycle _ _ _ c.size.ensures c.size-2.ensures c.size-3.ensures c.new.result
-    (same_numbers (2 ^ 32) c.args.masks.now _ _ _ c.as_slice.ensures.value c.in-Some.is c.in_ok-masks.ensures)
-    (same_numbers (2 ^ 32) c.args.lost.now _ _ _ c.as_slice-2.ensures.value c.in-Some-2.is c.in_ok-lost.ensures)
+    (same_numbers _ (2 ^ 32) c.args.masks.now _ _ _ c.as_slice.ensures.value c.in-Some.is c.in_ok-masks.ensures)
+    (same_numbers _ (2 ^ 32) c.args.lost.now _ _ _ c.as_slice-2.ensures.value c.in-Some-2.is c.in_ok-lost.ensures)
     c.new.ensures
