@@ -1,4 +1,4 @@
-// Lines that look back: filled upward.
+// Lines that look back: filled upward. Apart from `fill`: each sample hands a value on to the next.
 ghost use Rattle.std.specs.Prelude.{◌≡◌, suc, ◌<◌};
 ghost use Rattle.meaning.specs.Cells.{column, Fills, HasColumn};
 ghost use Rattle.meaning.specs.Columns.{carried};

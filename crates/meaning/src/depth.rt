@@ -10,6 +10,7 @@ pub(crate) fn depth_under(one: Line, depths: &[usize; 64]) -> usize
     requires { Lower 64 one }
     ensures { result ≡ under (λ a. slice_index depths.now a) one }
 {
+    // each line by name, since they differ in what they read
     match one {
         Line::Const(_) | Line::Signal(_) => 0,
         Line::Not(a) | Line::Next(a) | Line::Previous(a) | Line::WeakPrevious(a) => {

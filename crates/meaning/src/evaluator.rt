@@ -82,6 +82,7 @@ pub fn judge<R: Recording>(
     let width = lines.len();
     let cycle = recording.cycle() as usize;
     let mut samples = recording.stem() as usize + cycle;
+    // an array, since no call of the library allocates
     let mut depths = [0; 64];
     let mut deepest = 0;
     for (k, line) in lines.iter().enumerate() {

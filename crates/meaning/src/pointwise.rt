@@ -25,6 +25,7 @@ pub(crate) fn fill<T: Truth, F: Fn(&[T], usize) -> T>(
     }
 }
 
+// Apart from `fill`: it reads the sample after, and a closure could not know that there is a cell.
 pub(crate) fn fill_next<T: Truth>(cells: &mut [T], grid: Grid, line: usize, left: usize)
     requires column { HasColumn grid.width grid.samples line cells.old }
     requires left { left < line }
