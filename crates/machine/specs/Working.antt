@@ -30,6 +30,10 @@ pub record Room (n : ℕ) (w : Work) : Type 0 where
   pub variables : length w.variables ≤ n
   pub pairs : length w.pairs ≤ n
 
+-- and that is room for another line of 64
+abbrev pub HasRoom : Work → Type 0
+HasRoom w = Room 63 w
+
 -- which signs a line has
 abbrev pub told : Signs → Sign → Bool
 told s plus = s.plus

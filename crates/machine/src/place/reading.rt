@@ -1,4 +1,5 @@
-// A new machine, and the tables of any.
+// A new machine, and the tables of any. Each reader says that the tables are sound: it is the machine's own fact, and a
+// caller knows it by what it reads first.
 ghost use Rattle.std.specs.Prelude.{◌≡◌};
 ghost use Rattle.machine.specs.Machines.{tables};
 ghost use Rattle.machine.specs.Tables.{IsSound, fresh};

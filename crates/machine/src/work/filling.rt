@@ -4,7 +4,7 @@ ghost use Rattle.sheet.specs.Table.{Lower};
 ghost use Rattle.machine.specs.declared.gate.Gate.TheVariants as gates;
 ghost use Rattle.machine.specs.declared.gate.Variable.TheVariants as variables;
 ghost use Rattle.machine.specs.Translation.{size, gates_of, variables_of, pairs_of};
-ghost use Rattle.machine.specs.Working.{IsEmpty, extended, with_line, place_in, own_place, Room, told};
+ghost use Rattle.machine.specs.Working.{IsEmpty, extended, with_line, place_in, own_place, Room, HasRoom, told};
 
 use crate::gate::{Gate, Pair, Variable};
 use crate::signs::Signs;
@@ -53,7 +53,7 @@ impl Work {
 
     // A new variable and its var gate.
     fn put_held(&mut self, variable: Variable)
-        requires { (length self.old.gates < 192) × (length self.old.variables < 64) }
+        requires { HasRoom self.old }
         ensures { self.new ≡ extended (gates.Var (length self.old.variables) ∷ []) (variable ∷ []) [] self.old }
     {
         let name = self.variables.push(variable);
@@ -62,7 +62,7 @@ impl Work {
 
     // The three gates and the variable of a since: left and right are gates.
     fn put_since(&mut self, left: u8, right: u8, start: bool)
-        requires { (length self.old.gates + 2 < 192) × (length self.old.variables < 64) }
+        requires { HasRoom self.old }
         ensures { self.new ≡ extended (gates.Var (length self.old.variables) ∷ gates.And left (length self.old.gates) ∷ gates.Or right (length self.old.gates + 1) ∷ []) (variables.Back (length self.old.gates + 2) start ∷ []) [] self.old }
     {
         let name = self.variables.len() as u8;
@@ -74,7 +74,7 @@ impl Work {
 
     // The gates, the variable and the pair of a used line, whose own gate is the last that it makes.
     fn put_used(&mut self, line: Line, own: u8, signs: Signs)
-        requires { (Lower 64 line) × ((length self.old.gates + 2 < 192) × ((length self.old.variables < 64) × ((length self.old.pairs < 64) × (own ≡ own_place line self.old)))) }
+        requires { (Lower 64 line) × ((HasRoom self.old) × (own ≡ own_place line self.old)) }
         ensures { self.new ≡ extended (gates_of (place_in self.old) (length self.old.gates) (length self.old.variables) line) (variables_of (place_in self.old) own line) (pairs_of (place_in self.old) own (told signs) line) self.old }
     {
         match line {
