@@ -34,8 +34,9 @@ fn list(names: &[u8], rule: &[u8], out: &mut [u8]) -> Result<u64, Answer>
     let printed = Printed { machine: &machine };
     let mut page = ArrayString::<PAGE>::new();
     write!(page, "{printed}")?;
-    put(page.as_str().as_bytes(), out);
-    Ok(page.len() as u64)
+    let text = page.as_str().as_bytes();
+    put(text, out);
+    Ok(text.len() as u64)
 }
 
 /// Writes the tables of the rule's machine to the front of `out`, as far as there is room, and answers how long the

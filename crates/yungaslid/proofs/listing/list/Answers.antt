@@ -30,9 +30,10 @@ returns-in_err-write c =
 
 pub returns : goal.returns
 returns c =
-    let text : c.write.new.self.bytes ≡ listing (sealed_lines c.in_ok-sheet.sheet) =
-    contents_after_writes _ (λ (s : ArrayString). s.bytes) (λ w l v t. t) c.new-page.result _ c.write.new.self c.in_ok-write.ensures.writes
+    let text : c.as_bytes-text.result.now ≡ listing (sealed_lines c.in_ok-sheet.sheet) =
+    c.as_bytes-text.ensures.value ∙ c.as_str.ensures.value
+    ∙ contents_after_writes _ (λ (s : ArrayString). s.bytes) (λ w l v t. t) c.new-page.result _ c.write.new.self c.in_ok-write.ensures.writes
     ∙ ap (λ l. l ++ tables_text (tables c.translate.new.machine)) c.new-page.ensures ∙ ap tables_text c.translate.ensures.filled in
-    rw (c.len.ensures.value, text)
+    rw text
     (listed _ (ruled_at _ _ _ c.in_ok-names.names c.in_ok-names.ensures tt c.in_ok-sheet.sheet c.in_ok-sheet.ensures)
-    (c.put.ensures ∙ ap (λ l. over l c.args.out.now) (c.as_bytes.ensures.value ∙ c.as_str.ensures.value ∙ text)))
+    (c.put.ensures ∙ ap (λ l. over l c.args.out.now) text))
