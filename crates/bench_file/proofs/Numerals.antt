@@ -1,26 +1,11 @@
 -- The header's numerals.
-use Rattle.std.proofs.Common.{◌≡◌, ℕ, ◌+◌, ◌-◌, ◌*◌, ◌<◌, ◌≤◌, true, false, List, [], ◌∷◌, ◌++◌, length, get_or, take, drop, Some, Option, sym, ap, ◌∙◌, subst, append_assoc, arith, Bor}
+use Rattle.std.proofs.Common.{◌≡◌, ℕ, ◌+◌, List, [], ◌∷◌, ◌++◌, length, get_or, drop, Some, Option, sym, ap, ◌∙◌, subst, append_assoc, arith, Bor}
 use Rattle.std.proofs.lemmas.List.{length-append, drop_at}
-use Rattle.std.proofs.lemmas.List.Sums.{fold_more}
-use Rattle.std.proofs.lemmas.Bool.Decides.{nat_tests}
-use Rattle.std.specs.Char.{is_ascii_digit}
 use Rattle.lexer.specs.Names.{spaced}
 use Rattle.lexer.specs.Parts.{Joins}
-use Rattle.bench_file.specs.Lines.{value, more, field, stem_of, cycle_of, rule_of, IsNumeral, IsHeader}
+use Rattle.bench_file.specs.Lines.{value, field, stem_of, cycle_of, rule_of, IsNumeral, IsHeader}
 use Rattle.bench_file.specs.Steps.{Counted}
 use Rattle.bench_file.proofs.Marks.{parts_some}
-
-pub a_digit : (b : ℕ) → is_ascii_digit b ≡ true → (48 ≤ b) × (b ≤ 57)
-a_digit b e = grind (arith, nat_tests)
-
-pub no_digit : (b : ℕ) → is_ascii_digit b ≡ false → (48 ≤ b) × (b ≤ 57) → ⊥
-no_digit b e d = grind (arith, nat_tests)
-
-pub value_more : (ds : List ℕ) (i n : ℕ) → i < length ds → n ≡ value (take i ds) → n * 10 + (get_or ds i 0 - 48) ≡ value (take (i + 1) ds)
-value_more ds i n lt e = ap (λ (m : ℕ). more m (get_or ds i 0)) e ∙ sym (fold_more more 0 ds i 0 lt)
-
-pub positive : (n : ℕ) → (n ≡ 0 → ⊥) → 0 < n
-positive n h = grind arith
 
 -- the header's fields, as the line is cut at its first two spaces
 pub parted : (l after rule p q : List ℕ) → spaced l ≡ p ∷ spaced after → spaced after ≡ q ∷ spaced rule → spaced l ≡ p ∷ q ∷ spaced rule

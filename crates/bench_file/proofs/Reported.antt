@@ -1,5 +1,5 @@
 -- What a bench file says is what is reported of.
-use Rattle.std.proofs.Common.{◌≡◌, ℕ, ◌+◌, ◌<◌, ◌≤◌, List, [], ◌∷◌, length, get_or, take, Ok, Err, Result, sym, refl, ap, ◌∙◌, subst, arith, take_all}
+use Rattle.std.proofs.Common.{◌≡◌, ℕ, ◌+◌, ◌<◌, ◌≤◌, List, [], ◌∷◌, length, get_or, take, Ok, Err, sym, refl, ap, ◌∙◌, arith, take_all}
 use mathlib.Core.Path.{transport}
 use Rattle.std.proofs.lemmas.List.{length-take-le, get_or-take}
 use Rattle.recording.specs.Gapped.{gapped}
@@ -11,8 +11,9 @@ use Rattle.lexer.specs.Names.{known, names_of, spaced}
 use Rattle.text.specs.Reading.{Fitting}
 use Rattle.text.specs.Rules.{Rule, written}
 use Rattle.bench_file.specs.declared.file.BenchFile.{BenchFile}
-use Rattle.bench_file.specs.declared.outcome.Refused.{Refused}
 use Rattle.bench_file.specs.declared.outcome.Report.{Report}
+use Rattle.meaning.specs.declared.refusal.Refusal.{Refusal}
+use Rattle.bench_file.specs.declared.outcome.ReportRefusal.TheVariants.{Judging}
 use Rattle.bench_file.specs.Files.{lines, line, samples, signals, InForm, Says}
 use Rattle.bench_file.specs.Lines.{IsNumeral, value, stem_of, cycle_of}
 use Rattle.bench_file.specs.Reporting.{FitsFile, Taped, Told}
@@ -90,11 +91,13 @@ module _ (bytes : List ℕ) (f : BenchFile) (form : InForm bytes) (says : Says b
   word_is t h = (moved t h).2
 
   pub told : (t : GappedTape) (h : Taped f (Ok t)) (cells : ℕ) (r : Rule) (ls' : List Line) → Fitting (known f.names) f.rule.now [] r → ls' ≡ written [] r
-      → (p : Result Report Refused) → Told ls' (gapped_word t) cells p → Reports bytes cells p
-  told t h cells r ls' fit e (Ok p) j =
+      → (p : Report) → Told ls' (gapped_word t) cells (Ok p) → Reports bytes cells (Ok p)
+  told t h cells r ls' fit e p j =
       judged p (recorded t h) r (transport (λ i. Fitting (known_is i) (says.rule i) [] r) fit)
       (transport (λ i. Judged (e i) (word_is t h i) p) j)
-  told t h cells r ls' fit e (Err x) j =
-      subst (λ y. Reports bytes cells (Err y)) (sym j.2)
-      (unjudged j.0 (recorded t h) r (transport (λ i. Fitting (known_is i) (says.rule i) [] r) fit)
-      (transport (λ i. Unjudged (e i) (word_is t h i) cells j.0) j.1))
+
+  pub untold : (t : GappedTape) (h : Taped f (Ok t)) (cells : ℕ) (r : Rule) (ls' : List Line) → Fitting (known f.names) f.rule.now [] r → ls' ≡ written [] r
+      → (x : Refusal) → Told ls' (gapped_word t) cells (Err x) → Reports bytes cells (Err (Judging x))
+  untold t h cells r ls' fit e x j =
+      unjudged x (recorded t h) r (transport (λ i. Fitting (known_is i) (says.rule i) [] r) fit)
+      (transport (λ i. Unjudged (e i) (word_is t h i) cells x) j)

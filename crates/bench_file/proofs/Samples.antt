@@ -1,6 +1,7 @@
 -- The samples of a file, and its end.
-use Rattle.std.proofs.Common.{◌≡◌, ℕ, ◌+◌, ◌-◌, ◌<◌, ◌≤◌, Bool, true, false, cond, eqb, ◌⊎◌, List, [], ◌∷◌, length, get_or, drop, IsErrAnd, Err, Result, sym, refl, ap, ◌∙◌, subst, inl, inr, arith}
+use Rattle.std.proofs.Common.{◌≡◌, ℕ, ◌+◌, ◌-◌, ◌<◌, ◌≤◌, Bool, true, false, cond, eqb, ◌==◌, ◌⊎◌, List, [], ◌∷◌, length, get_or, drop, IsErrAnd, Err, Result, sym, refl, ap, ◌∙◌, subst, inl, inr, arith}
 use Rattle.std.proofs.lemmas.List.{drop-drop, length-drop, length-take, get_or-drop, take_all}
+use Rattle.std.proofs.lemmas.Bool.Decides.{nat_tests}
 use Rattle.std.proofs.lemmas.Result.{err_from_is_err_and}
 use Rattle.lexer.specs.Names.{Good, spaced, names_of, known}
 use Rattle.lexer.specs.Parts.{parts, on_first}
@@ -22,6 +23,13 @@ count_small l = omega (arith, length-take 32 (spaced l))
 
 pub count_some : (l : List ℕ) → 0 < length (names_of l)
 count_some l = omega (arith, length-take 32 (spaced l), parts_some 32 l)
+
+-- whether there are bytes, as `is_empty` tells it
+pub some_bytes : (bytes : List ℕ) (b : Bool) → b ≡ false → b ≡ (length bytes == 0) → 0 < length bytes
+some_bytes bytes b f e = grind (arith, nat_tests)
+
+pub no_bytes_are : (bytes : List ℕ) (b : Bool) → b ≡ true → b ≡ (length bytes == 0) → length bytes ≡ 0
+no_bytes_are bytes b f e = grind (arith, nat_tests)
 
 -- bytes whose one line is empty are none
 some_line : (s b : ℕ) (bs : List ℕ) (t : Bool) → length (cond t ([] ∷ parts s bs) (on_first b (parts s bs))) ≡ 1

@@ -1,23 +1,20 @@
--- A refusal by its number and its place, whatever it comes from.
-use Rattle.std.specs.Prelude.{Some, None}
+-- The number and the place of a refusal, whatever layer it comes from.
+use Rattle.std.specs.Prelude.{ℕ, Some, None, Option}
 use Rattle.recording.specs.Refusals.{tape_number}
-use Rattle.recording.specs.declared.refusal.TapeRefusal.{TapeRefusal}
 use Rattle.meaning.specs.Refusals.{number_of}
-use Rattle.meaning.specs.declared.refusal.Refusal.{Refusal}
 use Rattle.text.specs.Faults.{fault_number, fault_place}
-use Rattle.text.specs.declared.fault.Fault.{Fault}
-use Rattle.bench_file.specs.declared.outcome.Refused.{Refused}
-use Rattle.bench_file.specs.declared.refusal.FileRefusal.{FileRefusal}
+use Rattle.bench_file.specs.declared.outcome.ReportRefusal.{ReportRefusal}
+use Rattle.bench_file.specs.declared.outcome.ReportRefusal.TheVariants.{File, Tape, Text, Judging}
 use Rattle.bench_file.specs.Refusals.{file_number, file_place}
 
-abbrev pub refused_file : FileRefusal → Refused
-refused_file e = record { number = file_number e; place = file_place e }
+abbrev pub report_number : ReportRefusal → ℕ
+report_number (File e) = file_number e
+report_number (Tape e) = tape_number e
+report_number (Text f) = fault_number f
+report_number (Judging e) = number_of e
 
-abbrev pub refused_tape : TapeRefusal → Refused
-refused_tape e = record { number = tape_number e; place = None }
-
-abbrev pub refused_text : Fault → Refused
-refused_text f = record { number = fault_number f; place = Some (fault_place f) }
-
-abbrev pub refused_judging : Refusal → Refused
-refused_judging e = record { number = number_of e; place = None }
+abbrev pub report_place : ReportRefusal → Option ℕ
+report_place (File e) = file_place e
+report_place (Tape e) = None
+report_place (Text f) = Some (fault_place f)
+report_place (Judging e) = None

@@ -4,8 +4,9 @@ use Rattle.recording.specs.declared.truth.Ternary.{Ternary}
 use Rattle.recording.specs.declared.truth.Ternary.TheVariants.{No, Lost, Yes}
 use Rattle.machine.specs.Machines.{tables}
 use Rattle.tables.specs.Text.{tables_text}
-use Rattle.bench_file.specs.declared.outcome.Refused.{Refused}
 use Rattle.bench_file.specs.declared.outcome.Report.{Report}
+use Rattle.bench_file.specs.declared.outcome.ReportRefusal.{ReportRefusal}
+use Rattle.bench_file.specs.Outcomes.{report_number, report_place}
 
 abbrev pub verdict_text : Ternary → List ℕ
 verdict_text No = codes "no"
@@ -20,5 +21,5 @@ abbrev pub place_text : Option ℕ → List ℕ
 place_text None = codes "-"
 place_text (Some n) = decimal n
 
-abbrev pub refused_text : Refused → List ℕ
-refused_text r = codes "number place" ++ (10 ∷ (decimal r.number ++ (32 ∷ (place_text r.place ++ (10 ∷ [])))))
+abbrev pub refused_text : ReportRefusal → List ℕ
+refused_text r = codes "number place" ++ (10 ∷ (decimal (report_number r) ++ (32 ∷ (place_text (report_place r) ++ (10 ∷ [])))))

@@ -20,12 +20,12 @@ use Rattle.machine.specs.Translation.{translate}
 use Rattle.text.specs.declared.fault.Fault.{Fault}
 use Rattle.text.specs.Reading.{FirstFault, Fitting}
 use Rattle.text.specs.Rules.{Rule, written}
-use Rattle.bench_file.specs.declared.outcome.Refused.{Refused}
 use Rattle.bench_file.specs.declared.outcome.Report.{Report}
+use Rattle.bench_file.specs.declared.outcome.ReportRefusal.{ReportRefusal}
+use Rattle.bench_file.specs.declared.outcome.ReportRefusal.TheVariants.{File, Tape, Text, Judging}
 use Rattle.bench_file.specs.declared.refusal.FileRefusal.{FileRefusal}
 use Rattle.bench_file.specs.Files.{lines, line, samples, signals, InForm, Refuses}
 use Rattle.bench_file.specs.Lines.{stem_of, cycle_of, rule_of, mask_of, lost_of}
-use Rattle.bench_file.specs.Outcomes.{refused_file, refused_tape, refused_text, refused_judging}
 
 -- the masks and lost masks that the lines of the samples say
 pub record Sampled (ls : List (List ℕ)) (masks lost : List ℕ) : Type 0 where
@@ -70,17 +70,12 @@ pub record Judged (ls : List Line) (w : Word Ternary) (r : Report) : Type 0 wher
   pub verdict : r.verdict ≡ f (last_line ls) 0
 
 -- what is answered, where so many cells are lent
-pub data Reports (bytes : List ℕ) (cells : ℕ) : Result Report Refused → Type 0 where
-  out_of_form : (e : FileRefusal) → Refuses bytes e → Reports bytes cells (Err (refused_file e))
+pub data Reports (bytes : List ℕ) (cells : ℕ) : Result Report ReportRefusal → Type 0 where
+  out_of_form : (e : FileRefusal) → Refuses bytes e → Reports bytes cells (Err (File e))
   no_tape : (e : TapeRefusal) (masks lost : List ℕ) → InForm bytes → Sampled (lines bytes) masks lost
-      → (FitsTape (lines bytes) masks → FitsTape (lines bytes) lost → ⊥) → Reports bytes cells (Err (refused_tape e))
-  faulty : (f : Fault) → Recorded bytes → FirstFault (names bytes) (rule_text bytes) [] f → Reports bytes cells (Err (refused_text f))
+      → (FitsTape (lines bytes) masks → FitsTape (lines bytes) lost → ⊥) → Reports bytes cells (Err (Tape e))
+  faulty : (f : Fault) → Recorded bytes → FirstFault (names bytes) (rule_text bytes) [] f → Reports bytes cells (Err (Text f))
   unjudged : (e : Refusal) (d : Recorded bytes) (r : Rule) → Fitting (names bytes) (rule_text bytes) [] r
-      → Unjudged (written [] r) (word bytes d) cells e → Reports bytes cells (Err (refused_judging e))
+      → Unjudged (written [] r) (word bytes d) cells e → Reports bytes cells (Err (Judging e))
   judged : (p : Report) (d : Recorded bytes) (r : Rule) → Fitting (names bytes) (rule_text bytes) [] r
       → Judged (written [] r) (word bytes d) p → Reports bytes cells (Ok p)
-
--- a refusal leaves the cells as they were
-abbrev pub Kept : List Ternary → List Ternary → Result Report Refused → Type 0
-Kept before after (Ok p) = Unit {0}
-Kept before after (Err e) = after ≡ before

@@ -88,7 +88,7 @@ pub fn read_file<'a>(bytes: &'a [u8]) -> Result<BenchFile<'a>, FileRefusal>
     let mut masks = [0; 1998];
     let mut lost = [0; 1998];
     let rest = read_samples(top.rest, count, top.names.count(), &mut masks, &mut lost)?;
-    if rest.len() > 0 {
+    if !rest.is_empty() {
         return Err(FileRefusal::Form { line: 3 + count });
     }
     Ok(BenchFile {

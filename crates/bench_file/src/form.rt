@@ -33,13 +33,11 @@ pub(crate) fn take_line<'a>(bytes: &'a [u8], number: usize) -> Result<Taken<'a>,
     ensures { TakenLine bytes.now number result }
 {
     let part = first_part(bytes, b'\n');
-    match part.rest {
-        Some(rest) => Ok(Taken {
-            line: part.bytes,
-            rest,
-        }),
-        None => Err(FileRefusal::Form { line: number }),
-    }
+    let rest = part.rest.ok_or(FileRefusal::Form { line: number })?;
+    Ok(Taken {
+        line: part.bytes,
+        rest,
+    })
 }
 
 // Whether that is line 0.
@@ -53,15 +51,12 @@ pub(crate) fn is_title(line: &[u8]) -> bool
 fn numeral(digits: &[u8]) -> Option<usize>
     ensures { Counted digits.now result }
 {
-    if digits.len() == 0 || digits.len() > 3 {
+    if digits.is_empty() || digits.len() > 3 {
         return None;
     }
     let mut value = 0;
-    for digit in digits {
-        if !digit.is_ascii_digit() {
-            return None;
-        }
-        value = value * 10 + (*digit - b'0') as usize;
+    for &digit in digits {
+        value = value * 10 + char::from(digit).to_digit(10)? as usize;
     }
     Some(value)
 }
@@ -83,13 +78,10 @@ pub(crate) fn read_header<'a>(line: &'a [u8]) -> Option<Header<'a>>
 fn mark(bytes: &[u8]) -> Option<Sample>
     ensures { MarkOf bytes.now result }
 {
-    if bytes.len() != 1 {
-        return None;
-    }
-    match bytes[0] as char {
-        '0' => Some(Sample { mask: 0, lost: 0 }),
-        '1' => Some(Sample { mask: 1, lost: 0 }),
-        '?' => Some(Sample { mask: 0, lost: 1 }),
+    match bytes {
+        [b'0'] => Some(Sample { mask: 0, lost: 0 }),
+        [b'1'] => Some(Sample { mask: 1, lost: 0 }),
+        [b'?'] => Some(Sample { mask: 0, lost: 1 }),
         _ => None,
     }
 }
@@ -102,16 +94,14 @@ pub(crate) fn read_sample(line: &[u8], signals: u8) -> Option<Sample>
     let part = first_part(line, b' ');
     let own = mark(part.bytes)?;
     match part.rest {
-        None => { if signals == 1 { Some(own) } else { None } }
-        Some(rest) => {
-            if signals == 1 {
-                return None;
-            }
+        None if signals == 1 => Some(own),
+        Some(rest) if signals > 1 => {
             let others = read_sample(rest, signals - 1)?;
             Some(Sample {
                 mask: own.mask + 2 * others.mask,
                 lost: own.lost + 2 * others.lost,
             })
         }
+        _ => None,
     }
 }

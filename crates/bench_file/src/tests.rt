@@ -1,6 +1,6 @@
 // Which bytes are a bench file, what it says, and where another is refused.
 use crate::file::read_file;
-use crate::outcome::{Refused, Report};
+use crate::outcome::{Report, ReportRefusal};
 use crate::report::{CELLS, report};
 use recording::truth::Ternary;
 use std::process::Abort;
@@ -144,7 +144,7 @@ fn long_files(rt: HostRuntime) -> Result<(), Fail> {
     refused(&rt, &over, 19, Some(0))
 }
 
-fn reported(bytes: &[u8]) -> Result<Report, Refused> {
+fn reported(bytes: &[u8]) -> Result<Report, ReportRefusal> {
     let mut cells = [Ternary::No; CELLS];
     report(bytes, &mut cells)
 }
@@ -196,7 +196,10 @@ fn refused_reports(rt: HostRuntime) -> Result<(), Fail> {
     for (bytes, number, place) in cases {
         match reported(bytes) {
             Ok(_) => return Err(Fail::new("taken")),
-            Err(refused) => assert_eq!(rt; refused, Refused { number, place }),
+            Err(refusal) => {
+                assert_eq!(rt; refusal.number(), number);
+                assert_eq!(rt; refusal.place(), place);
+            }
         }
     }
     Ok(())

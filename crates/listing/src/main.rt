@@ -9,12 +9,11 @@ use recording::truth::Ternary;
 const MOST: usize = 16_385;
 
 fn main(rt: HostRuntime) -> anyhow::Result<()> {
-    let mut buf = vec![in rt.alloc(); 0u8; MOST]?;
+    let bytes = read_input(&rt, MOST)?;
     let mut cells = vec![in rt.alloc(); Ternary::No; CELLS]?;
-    let used = read_input(&rt, buf.as_mut_slice())?;
-    match report(&buf.as_slice()[0..used], cells.as_mut_slice()) {
+    match report(&bytes, &mut cells) {
         Ok(report) => print!(rt; "{report}")?,
-        Err(refused) => print!(rt; "{refused}")?,
+        Err(refusal) => print!(rt; "{refusal}")?,
     }
     Ok(())
 }

@@ -107,13 +107,15 @@ fn answer_lines<F: Fn(Call) -> Option<Call>>(
 
 /// Answers the lines of standard input, one after another: a line that is no call, or one that `allowed` gives none for,
 /// is told as unread, by its number. Input that is too long is not read at all.
-pub fn answer_input<F: Fn(Call) -> Option<Call>>(rt: &HostRuntime, allowed: F) -> io::Result<()>
+pub fn answer_input<F: Fn(Call) -> Option<Call>>(
+    rt: &(impl Print + Input + AllocGlobal),
+    allowed: F,
+) -> io::Result<()>
     requires { F.IsAlwaysCallable allowed }
 {
-    let mut buf = vec![in rt.alloc(); 0u8; MOST + 1]?;
-    let used = read_input(rt, buf.as_mut_slice())?;
-    if used > MOST {
+    let text = read_input(rt, MOST + 1)?;
+    if text.len() > MOST {
         return println!(rt; "unread: too long");
     }
-    answer_lines(rt, &buf.as_slice()[0..used], &allowed)
+    answer_lines(rt, text.as_slice(), &allowed)
 }

@@ -2,7 +2,7 @@
 ghost use Rattle.std.specs.Prelude.{Some};
 ghost use Rattle.bench_file.specs.Printing.{verdict_text, report_text, place_text, refused_text};
 
-use crate::outcome::{Refused, Report};
+use crate::outcome::{Report, ReportRefusal};
 use recording::truth::Ternary;
 use std::fmt;
 use tables::printed::Printed;
@@ -50,12 +50,12 @@ impl fmt::Display for Place {
     }
 }
 
-impl fmt::Display for Refused {
+impl fmt::Display for ReportRefusal {
     ghost output = { λ r. Some (refused_text r) };
 
     fn fmt<W: fmt::Write>(&self, f: &mut fmt::Formatter<W>) -> fmt::Result {
-        let number = self.number;
-        let place = Place(self.place);
+        let number = self.number();
+        let place = Place(self.place());
         write!(f, "number place\n{number} {place}\n")
     }
 }

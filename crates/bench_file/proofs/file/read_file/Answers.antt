@@ -2,7 +2,7 @@ use Rattle.std.proofs.Common.{refl, inl, inr, arith}
 use Rattle.lexer.specs.Names.{line_of}
 use Rattle.bench_file.specs.Files.{lines}
 use Rattle.bench_file.proofs.Exactly.{exact}
-use Rattle.bench_file.proofs.Samples.{count_small, count_some, asked, named, refused_top, refused_samples, wrong_sample, wrong_extra, all_right, masks_say, lost_say}
+use Rattle.bench_file.proofs.Samples.{some_bytes, no_bytes_are, count_small, count_some, asked, named, refused_top, refused_samples, wrong_sample, wrong_extra, all_right, masks_say, lost_say}
 use Rattle.bench_file.proofs.file.read_file.Goals as goal
 
 pub returns-then-bytes-gt-LONGEST : goal.returns-then-bytes-gt-LONGEST
@@ -33,14 +33,14 @@ returns-in_err-rest c =
     let w = wrong_sample ls _ _ _ t.rest n k t.right t.good b.0 b.1.1 in
     record { outcome = refused_samples _ _ _ _ c.if-bytes-gt-LONGEST.false c.from_residual-in_err-rest.ensures.1 b.1.0 w; exact = exact _ }
 
-pub returns-then-rest-gt0 : goal.returns-then-rest-gt0
-returns-then-rest-gt0 c =
+pub returns-then-not-is_empty : goal.returns-then-not-is_empty
+returns-then-not-is_empty c =
     let ls = lines c.args.bytes.now in
     let top = c.in_ok-top.top in
     let t = c.in_ok-top.ensures in
     let n = asked ls top t in
     let k = named ls top c.count.result t c.count.ensures in
-    let w = wrong_extra ls _ _ _ t.rest n k t.right t.good _ _ c.in_ok-rest.rest.now c.in_ok-rest.ensures c.if-rest-gt0.true in
+    let w = wrong_extra ls _ _ _ t.rest n k t.right t.good _ _ c.in_ok-rest.rest.now c.in_ok-rest.ensures (some_bytes _ _ c.if-not-is_empty.true c.is_empty.ensures) in
     record { outcome = inr (c.if-bytes-gt-LONGEST.false, w); exact = exact _ }
 
 pub returns : goal.returns
@@ -58,7 +58,7 @@ returns c =
       outcome = (
         record {
           short = c.if-bytes-gt-LONGEST.false;
-          right = all_right ls _ _ _ t.rest n k t.right masks lost rest s (omega arith);
+          right = all_right ls _ _ _ t.rest n k t.right masks lost rest s (no_bytes_are _ _ c.if-not-is_empty.false c.is_empty.ensures);
           named = t.good;
         },
         record {
