@@ -107,12 +107,15 @@ fn answer_lines<F: Fn(Call) -> Option<Call>>(
 
 /// Answers the lines of standard input, one after another: a line that is no call, or one that `allowed` gives none for,
 /// is told as unread, by its number. Input that is too long is not read at all.
-pub fn answer_input<F: Fn(Call) -> Option<Call>>(rt: &HostRuntime, allowed: F) -> io::Result<()>
+pub fn answer_input<F: Fn(Call) -> Option<Call>>(
+    rt: &(impl Print + Input + AllocGlobal),
+    allowed: F,
+) -> io::Result<()>
     requires { F.IsAlwaysCallable allowed }
 {
     let text = read_input(rt, MOST + 1)?;
     if text.len() > MOST {
         return println!(rt; "unread: too long");
     }
-    answer_lines(rt, &text, &allowed)
+    answer_lines(rt, text.as_slice(), &allowed)
 }

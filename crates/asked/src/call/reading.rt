@@ -2,11 +2,11 @@
 ghost use Rattle.std.specs.Prelude.{◌≡◌, ◌<◌, ◌↔◌, length, drop, IfOk, IfSome, IsNone};
 ghost use Rattle.asked.specs.Reading.{OnSheet, byte as byte_of, verb_of, alone as alone_of, only as only_of, writes, sizes_in, tapes, gaps, turns, checks, call_of, items_in, call_on, sheet_verb, bench_verb, call_verb, said, said_in};
 ghost use Rattle.asked.specs.Words.{numbers};
-ghost use Rattle.lexer.specs.Parts.{parts};
+ghost use Rattle.lexer.specs.Parts.{parts_left};
 
 use crate::call::{BenchCall, Call, SheetCall, TapeSizes, Verb};
 use crate::number::read_number;
-use lexer::parts::first_part;
+use lexer::parts::Parts;
 use std::alloc::{AllocError, Global};
 
 impl SheetCall {
@@ -185,40 +185,30 @@ fn with_numbers(heap: Global, verb: Verb, numbers: &[u128]) -> Result<Option<Cal
     }
 }
 
-// The numbers that the words of a text are, if they all are.
-fn read_numbers(heap: Global, text: &[u8]) -> Result<Option<Vec<u128>>, AllocError>
-    ensures { IfOk result (λ o. items_in o ≡ numbers (parts 32 text.now)) }
+// The numbers that the words are, if they all are.
+fn read_numbers(heap: Global, words: Parts<'_>) -> Result<Option<Vec<u128>>, AllocError>
+    ensures { IfOk result (λ o. items_in o ≡ numbers (parts_left words.entry)) }
 {
     let mut found = Vec::new(heap);
-    let mut rest = text;
-    loop {
-        let part = first_part(rest, b' ');
-        let Some(number) = read_number(part.bytes) else {
+    for word in words {
+        let Some(number) = read_number(word) else {
             return Ok(None);
         };
         found.push(number)?;
-        match part.rest {
-            None => return Ok(Some(found)),
-            Some(more) => rest = more,
-        }
     }
+    Ok(Some(found))
 }
 
 /// The call that a line of a script is, if it is one.
 pub fn read_call(heap: Global, line: &[u8]) -> Result<Option<Call>, AllocError>
     ensures { IfOk result (λ o. said_in o ≡ call_on line.now) }
 {
-    let word = first_part(line, b' ');
-    let Some(verb) = named(word.bytes) else {
+    let mut words = Parts::new(line, b' ');
+    let Some(verb) = words.next().and_then(named) else {
         return Ok(None);
     };
-    match word.rest {
-        None => with_numbers(heap, verb, &[]),
-        Some(rest) => {
-            let Some(numbers) = read_numbers(heap, rest)? else {
-                return Ok(None);
-            };
-            with_numbers(heap, verb, numbers.as_slice())
-        }
+    match read_numbers(heap, words)? {
+        Some(numbers) => with_numbers(heap, verb, numbers.as_slice()),
+        None => Ok(None),
     }
 }
