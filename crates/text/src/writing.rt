@@ -12,7 +12,7 @@ use sheet::draft::Draft;
 use sheet::line::Line;
 
 /// A line, for the token at `at`.
-pub fn put(draft: &mut Draft, at: usize, line: Line) -> Result<u8, Fault>
+pub(crate) fn put(draft: &mut Draft, at: usize, line: Line) -> Result<u8, Fault>
     requires { Lower (length (lines_of draft.old)) line }
     ensures wrote { Wrote (lines_of draft.old) (lines_of draft.new) (line ∷ []) at result }
     ensures grown { Grown (lines_of draft.old) (lines_of draft.new) }
@@ -38,7 +38,7 @@ fn put_two<F: FnOnce(u8) -> Line + Drop>(
 }
 
 /// A prefix's own lines, over the line of its unit.
-pub fn put_prefix(draft: &mut Draft, at: usize, prefix: Prefix, operand: u8) -> Result<u8, Fault>
+pub(crate) fn put_prefix(draft: &mut Draft, at: usize, prefix: Prefix, operand: u8) -> Result<u8, Fault>
     requires { operand < length (lines_of draft.old) }
     ensures wrote { Wrote (lines_of draft.old) (lines_of draft.new) (prefix_lines prefix operand (length (lines_of draft.old))) at result }
     ensures grown { Grown (lines_of draft.old) (lines_of draft.new) }
@@ -76,7 +76,7 @@ pub fn put_prefix(draft: &mut Draft, at: usize, prefix: Prefix, operand: u8) -> 
 }
 
 /// A pair's own lines, over the lines of its units.
-pub fn put_infix(
+pub(crate) fn put_infix(
     draft: &mut Draft,
     at: usize,
     operator: Infix,
