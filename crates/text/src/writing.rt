@@ -38,7 +38,12 @@ fn put_two<F: FnOnce(u8) -> Line + Drop>(
 }
 
 /// A prefix's own lines, over the line of its unit.
-pub(crate) fn put_prefix(draft: &mut Draft, at: usize, prefix: Prefix, operand: u8) -> Result<u8, Fault>
+pub(crate) fn put_prefix(
+    draft: &mut Draft,
+    at: usize,
+    prefix: Prefix,
+    operand: u8,
+) -> Result<u8, Fault>
     requires { operand < length (lines_of draft.old) }
     ensures wrote { Wrote (lines_of draft.old) (lines_of draft.new) (prefix_lines prefix operand (length (lines_of draft.old))) at result }
     ensures grown { Grown (lines_of draft.old) (lines_of draft.new) }
