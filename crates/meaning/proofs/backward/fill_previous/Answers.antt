@@ -1,8 +1,14 @@
-use Rattle.std.proofs.Common.{◌∙◌, arith}
+use Rattle.std.proofs.Common.{length, ap, ◌∙◌, arith, length-set}
 use Rattle.meaning.proofs.Filling.{filled_more, filled_all, read_as}
 use Rattle.meaning.proofs.Sweeps.{before_next}
 use Rattle.meaning.specs.Cells.{column}
 use Rattle.meaning.proofs.backward.fill_previous.Goals as goal
+
+pub put-requires : goal.put-requires
+put-requires g c = omega (arith, c.requires.column.room c.loop-t.t c.args.line (omega arith) (omega arith))
+
+pub read-held-requires : goal.read-held-requires
+read-held-requires g c = omega (arith, c.requires.column.room c.loop-t.t c.args.left (omega arith) (omega arith), simp length-set at (ap length c.put.ensures))
 
 pub loop-t-preserved : goal.loop-t-preserved
 loop-t-preserved g c =

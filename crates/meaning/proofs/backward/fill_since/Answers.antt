@@ -5,6 +5,16 @@ use Rattle.meaning.specs.Cells.{column}
 use Rattle.meaning.specs.Columns.{carried}
 use Rattle.meaning.proofs.backward.fill_since.Goals as goal
 
+pub carry-value-requires : goal.carry-value-requires
+carry-value-requires g c =
+    record {
+      left = omega (arith, c.requires.column.room c.loop-t.t c.args.left (omega arith) (omega arith));
+      right = omega (arith, c.requires.column.room c.loop-t.t c.args.right (omega arith) (omega arith));
+    }
+
+pub put-requires : goal.put-requires
+put-requires g c = omega (arith, c.requires.column.room c.loop-t.t c.args.line (omega arith) (omega arith))
+
 pub loop-t-preserved : goal.loop-t-preserved
 loop-t-preserved g c =
     let K = g.T.Truth in

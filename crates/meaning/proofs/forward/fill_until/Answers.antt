@@ -5,6 +5,16 @@ use Rattle.meaning.specs.Cells.{column, Fills}
 use Rattle.meaning.specs.Judging.{pass}
 use Rattle.meaning.proofs.forward.fill_until.Goals as goal
 
+pub carry-held-requires : goal.carry-held-requires
+carry-held-requires g c =
+    record {
+      left = omega (arith, c.requires.column.room (c.loop-t.t - 1) c.args.left (omega arith) (omega arith));
+      right = omega (arith, c.requires.column.room (c.loop-t.t - 1) c.args.right (omega arith) (omega arith));
+    }
+
+pub put-requires : goal.put-requires
+put-requires g c = omega (arith, c.requires.column.room (c.loop-t.t - 1) c.args.line (omega arith) (omega arith))
+
 pub loop-t-init : goal.loop-t-init
 loop-t-init g c = (
   fills_none _ _ _ (omega arith) _ _ c.args.grid.samples,

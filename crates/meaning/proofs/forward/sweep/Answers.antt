@@ -4,6 +4,13 @@ use Rattle.meaning.specs.Cells.{column}
 use Rattle.meaning.specs.Judging.{pass}
 use Rattle.meaning.proofs.forward.sweep.Goals as goal
 
+pub carry-held-requires : goal.carry-held-requires
+carry-held-requires g c =
+    record {
+      left = omega (arith, c.requires.room (c.loop-t.t - 1) c.args.left (omega arith) (omega arith));
+      right = omega (arith, c.requires.room (c.loop-t.t - 1) c.args.right (omega arith) (omega arith));
+    }
+
 pub loop-t-init : goal.loop-t-init
 loop-t-init g c = (omega arith, λ d. pass_none g.T.Truth.kind (column g.T.Truth.means c.args.cells.now c.args.grid.width c.args.left d) (column g.T.Truth.means c.args.cells.now c.args.grid.width c.args.right d) c.args.grid.samples (g.T.Truth.means c.args.start))
 
