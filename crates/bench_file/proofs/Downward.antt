@@ -1,11 +1,10 @@
 -- Going down a file: the lines that are right so far, and the first that is wrong.
-use Rattle.std.proofs.Common.{◌≡◌, ℕ, zero, suc, ◌+◌, ◌-◌, ◌<◌, ◌≤◌, List, [], ◌∷◌, ◌++◌, length, get_or, drop, IsErrAnd, Err, Result, sym, refl, ap, ◌∙◌, subst, arith, below_more}
-use Rattle.std.proofs.lemmas.List.{length-drop, get_or_append_left, get_or-append_right}
+use Rattle.std.proofs.Common.{◌≡◌, ℕ, zero, suc, ◌+◌, ◌<◌, ◌≤◌, ◌≢◌, List, [], ◌∷◌, length, get_or, drop, set, IsErrAnd, Err, Result, sym, refl, ap, ◌∙◌, subst, arith, get_or-set_other, get_or-set_same, Bor, below_more}
+use Rattle.std.proofs.lemmas.List.{length-drop}
 use Rattle.std.proofs.lemmas.Result.{err_from_is_err_and}
 use Rattle.lexer.specs.declared.names.NamesRefusal.{NamesRefusal}
 use Rattle.lexer.specs.Names.{Good}
 use Rattle.lexer.proofs.Pieces.{drop_first, drop_next}
-use Rattle.bench_file.specs.declared.file.Samples.{Samples}
 use Rattle.bench_file.specs.declared.file.Top.{Top}
 use Rattle.bench_file.specs.declared.refusal.FileRefusal.{FileRefusal}
 use Rattle.bench_file.specs.declared.refusal.FileRefusal.TheVariants.{Form, Naming}
@@ -146,16 +145,13 @@ sample_bad ls c n t a r rest d e bad lt all =
     let f = drop_first ls [] t a (lines r) (d ∙ e) in
     record { below = lt; all = all; wrong = λ s. bad (subst (IsSample c) (sym f.1) s.1) }
 
--- one more number
-pub one_more : (xs : List ℕ) (f : ℕ → ℕ) (t v : ℕ) → length xs ≡ t → ((j : ℕ) → j < t → get_or xs j 0 ≡ f j) → v ≡ f t → (j : ℕ) → j < t + 1
-    → get_or (xs ++ v ∷ []) j 0 ≡ f j
-one_more xs f t v l sofar e =
-    let z : t - t ≡ 0 = omega arith in
-    below_more _ _ (λ j below. get_or_append_left xs (v ∷ []) 0 j (omega arith) ∙ sofar j below)
-    (get_or-append_right xs (v ∷ []) t t 0 l (omega arith) ∙ ap (λ (n : ℕ). get_or (v ∷ []) n 0) z ∙ e)
+-- one more number is set
+pub set_more : (xs : List ℕ) (f : ℕ → ℕ) (t v : ℕ) → t < length xs → ((j : ℕ) → j < t → get_or xs j 0 ≡ f j) → v ≡ f t → (j : ℕ) → j < t + 1 → get_or (set xs t v) j 0 ≡ f j
+set_more xs f t v lt sofar e =
+    below_more _ _ (λ j below. let ne : j ≢ t = omega arith in get_or-set_other xs t j v 0 ne ∙ sofar j below) (get_or-set_same xs t v 0 lt ∙ e)
 
-pub samples_form : (ls : List (List ℕ)) (c n t : ℕ) (r : Result Samples FileRefusal) (e : FileRefusal) → IsErrAnd r (λ y. y ≡ e) → e ≡ Form (3 + t)
-    → SampleWrong ls c n t → SamplesOf ls c n r
-samples_form ls c n t r e by is w =
+pub samples_form : (ls : List (List ℕ)) (c n t : ℕ) (masks lost : List ℕ) (r : Result (Bor (List ℕ)) FileRefusal) (e : FileRefusal) → IsErrAnd r (λ y. y ≡ e) → e ≡ Form (3 + t)
+    → SampleWrong ls c n t → SamplesOf ls c n masks lost r
+samples_form ls c n t masks lost r e by is w =
     let p = err_from_is_err_and r by in
-    subst (SamplesOf ls c n) (sym (p.1 ∙ ap (λ (y : FileRefusal). Err y) (p.2 ∙ is))) (t, (refl, w))
+    subst (SamplesOf ls c n masks lost) (sym (p.1 ∙ ap (λ (y : FileRefusal). Err y) (p.2 ∙ is))) (t, (refl, w))

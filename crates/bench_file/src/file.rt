@@ -1,29 +1,26 @@
 // The bench file as a whole.
-ghost use Rattle.std.specs.Prelude.{◌<◌, ◌≤◌};
+ghost use Rattle.std.specs.Prelude.{◌≡◌, ◌<◌, ◌≤◌, length};
 ghost use Rattle.bench_file.specs.Files.{lines as file_lines, Exact, Outcome};
 ghost use Rattle.bench_file.specs.Steps.{SamplesOf, TopOf};
 
 use crate::form::{Header, is_title, read_header, read_sample, take_line};
 use crate::refusal::FileRefusal;
-use arrayvec::ArrayVec;
 use lexer::names::Names;
 
 // The bytes that a file may have.
 const LONGEST: usize = 16384;
 
-/// The samples that a file may have: stem and cycle have three digits at most.
-pub const SAMPLES: usize = 1998;
-
-/// What a bench file says. Sample t has the signals that are 1 in `masks[t]` and those that are lost in `lost[t]`: two
-/// lists, as a gapped tape takes them.
-#[derive(Drop)]
+/// What a bench file says. Sample t has the signals that are 1 in `masks[t]` and those that are lost in `lost[t]`, for
+/// t below stem + cycle; what stands there from stem + cycle on has no meaning. Two arrays, as a gapped tape takes two
+/// slices; with places that are not read, since a bench file is Copy, which no vector is.
+#[derive(Clone, Copy)]
 pub struct BenchFile<'a> {
     pub stem: usize,
     pub cycle: usize,
     pub rule: &'a [u8],
     pub names: Names<'a>,
-    pub masks: ArrayVec<u32, SAMPLES>,
-    pub lost: ArrayVec<u32, SAMPLES>,
+    pub masks: [u32; 1998],
+    pub lost: [u32; 1998],
 }
 
 // What lines 0 to 2 say, and what follows them.
@@ -31,14 +28,6 @@ pub struct BenchFile<'a> {
 struct Top<'a> {
     header: Header<'a>,
     names: Names<'a>,
-    rest: &'a [u8],
-}
-
-// What the lines of the samples say, and what follows them.
-#[derive(Drop)]
-struct Samples<'a> {
-    masks: ArrayVec<u32, SAMPLES>,
-    lost: ArrayVec<u32, SAMPLES>,
     rest: &'a [u8],
 }
 
@@ -62,25 +51,29 @@ fn read_top<'a>(bytes: &'a [u8]) -> Result<Top<'a>, FileRefusal>
     })
 }
 
-// Reads `count` samples.
-fn read_samples<'a>(bytes: &'a [u8], count: usize, signals: u8) -> Result<Samples<'a>, FileRefusal>
-    requires few { count ≤ 1998 }
+// Reads `count` samples, and answers what follows them.
+fn read_samples<'a>(
+    bytes: &'a [u8],
+    count: usize,
+    signals: u8,
+    masks: &mut [u32],
+    lost: &mut [u32],
+) -> Result<&'a [u8], FileRefusal>
+    requires few { (count ≤ 1998) × (count ≤ length masks.old) × (count ≤ length lost.old) }
     requires some { (0 < signals) × (signals ≤ 32) }
-    ensures { SamplesOf (file_lines bytes.now) signals count result }
+    ensures { SamplesOf (file_lines bytes.now) signals count masks.new lost.new result }
 {
-    let mut masks = ArrayVec::new();
-    let mut lost = ArrayVec::new();
     let mut rest = bytes;
     for t in 0..count {
         let taken = take_line(rest, 3 + t)?;
         let Some(own) = read_sample(taken.line, signals) else {
             return Err(FileRefusal::Form { line: 3 + t });
         };
-        masks.push(own.mask);
-        lost.push(own.lost);
+        masks[t] = own.mask;
+        lost[t] = own.lost;
         rest = taken.rest;
     }
-    Ok(Samples { masks, lost, rest })
+    Ok(rest)
 }
 
 /// Reads a bench file.
@@ -93,8 +86,10 @@ pub fn read_file<'a>(bytes: &'a [u8]) -> Result<BenchFile<'a>, FileRefusal>
     }
     let top = read_top(bytes)?;
     let count = top.header.stem + top.header.cycle;
-    let samples = read_samples(top.rest, count, top.names.count())?;
-    if !samples.rest.is_empty() {
+    let mut masks = [0; 1998];
+    let mut lost = [0; 1998];
+    let rest = read_samples(top.rest, count, top.names.count(), &mut masks, &mut lost)?;
+    if !rest.is_empty() {
         return Err(FileRefusal::Form { line: 3 + count });
     }
     Ok(BenchFile {
@@ -102,7 +97,7 @@ pub fn read_file<'a>(bytes: &'a [u8]) -> Result<BenchFile<'a>, FileRefusal>
         cycle: top.header.cycle,
         rule: top.header.rule,
         names: top.names,
-        masks: samples.masks,
-        lost: samples.lost,
+        masks,
+        lost,
     })
 }

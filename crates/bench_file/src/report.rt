@@ -22,15 +22,17 @@ pub const CELLS: usize = 61_440;
 
 // The recording of a file.
 fn tape_of(file: &BenchFile) -> Result<GappedTape, TapeRefusal>
-    requires { (file.now.stem ≤ 999) × (file.now.cycle ≤ 999) }
+    requires sized { (length file.now.masks ≡ 1998) × (length file.now.lost ≡ 1998) }
+    requires few { (file.now.stem ≤ 999) × (file.now.cycle ≤ 999) }
     ensures { Taped file.now result }
 {
+    let count = file.stem + file.cycle;
     GappedTape::new(
         file.names.count() as u32,
         file.stem as u32,
         file.cycle as u32,
-        &file.masks,
-        &file.lost,
+        &file.masks[..count],
+        &file.lost[..count],
     )
 }
 

@@ -20,8 +20,10 @@ fn refused(rt: &impl Abort, bytes: &[u8], number: u8, place: Option<usize>) -> R
 // Sample t of the file has these masks.
 fn sample(rt: &impl Abort, bytes: &[u8], t: usize, mask: u32, lost: u32) -> Result<(), Fail> {
     let file = read_file(bytes)?;
-    assert_eq!(rt; file.masks.get(t).copied(), Some(mask));
-    assert_eq!(rt; file.lost.get(t).copied(), Some(lost));
+    assert!(rt; t < 1998);
+    let (has, lacks) = (file.masks[t], file.lost[t]);
+    assert_eq!(rt; has, mask);
+    assert_eq!(rt; lacks, lost);
     Ok(())
 }
 

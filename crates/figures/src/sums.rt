@@ -13,7 +13,7 @@ pub(crate) fn more(sum: u64, byte: u8) -> u64 {
     (sum ^ u64::from(byte)).wrapping_mul(TIMES)
 }
 
-/// A truth value that counts as a byte. It is no `From`: neither `u8` nor the truth values are this crate's.
+/// A truth value that counts as a byte.
 pub(crate) trait AsByte: Truth {
     fn as_byte(self) -> u8;
 }

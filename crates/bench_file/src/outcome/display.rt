@@ -18,7 +18,7 @@ impl fmt::Display for Report {
     }
 }
 
-// A place, or a dash for none: a type, so that one `write!` prints it beside the number.
+// A place, or a dash for none.
 #[derive(Clone, Copy)]
 struct Place(Option<usize>);
 

@@ -14,7 +14,7 @@ returns-in_err-file-clause-reports c =
 pub tape_of-requires : goal.tape_of-requires
 tape_of-requires c =
     let o = c.in_ok-file.ensures.outcome in
-    small c.args.bytes.now c.in_ok-file.file o.0 o.1
+    record { sized = o.1.size; few = small c.args.bytes.now c.in_ok-file.file o.0 o.1 }
 
 pub returns-in_err-tape-clause-reports : goal.returns-in_err-tape-clause-reports
 returns-in_err-tape-clause-reports c =
