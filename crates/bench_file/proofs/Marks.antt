@@ -1,22 +1,14 @@
 -- The marks of a sample.
 use Rattle.std.proofs.Common.{◌≡◌, ℕ, suc, ◌-◌, ◌<◌, ◌≤◌, Bool, true, false, cond, eqb, List, [], ◌∷◌, length, get_or, None, ap, subst, arith}
+use Rattle.std.proofs.lemmas.List.Splits.{length-slice_split}
 use Rattle.lexer.specs.Names.{spaced}
-use Rattle.lexer.specs.Parts.{parts, on_first}
+use Rattle.lexer.specs.Parts.{parts}
 use Rattle.bench_file.specs.Lines.{IsMark, IsSample, field}
 use Rattle.bench_file.specs.Steps.{SampleOf}
 
 -- there is always a part
-parts_cond : (b : Bool) (xs ys : List (List ℕ)) → 0 < length xs → 0 < length ys → 0 < length (cond b xs ys)
-parts_cond true xs ys p q = p
-parts_cond false xs ys p q = q
-
-on_first_some : (b : ℕ) (ps : List (List ℕ)) → 0 < length (on_first b ps)
-on_first_some b [] = omega arith
-on_first_some b (p ∷ ps) = omega arith
-
 pub parts_some : (s : ℕ) (xs : List ℕ) → 0 < length (parts s xs)
-parts_some s [] = omega arith
-parts_some s (x ∷ xs) = parts_cond (eqb x s) ([] ∷ parts s xs) (on_first x (parts s xs)) (omega arith) (on_first_some x (parts s xs))
+parts_some s xs = omega (arith, length-slice_split (λ b. eqb b s) xs)
 
 -- the first mark, and the others
 

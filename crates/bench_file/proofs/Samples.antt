@@ -4,7 +4,8 @@ use Rattle.std.proofs.lemmas.List.{drop-drop, length-drop, length-take, get_or-d
 use Rattle.std.proofs.lemmas.Bool.Decides.{nat_tests}
 use Rattle.std.proofs.lemmas.Result.{err_from_is_err_and}
 use Rattle.lexer.specs.Names.{Good, spaced, names_of, known}
-use Rattle.lexer.specs.Parts.{parts, on_first}
+use Rattle.std.specs.List.{onto_first}
+use Rattle.lexer.specs.Parts.{parts}
 use Rattle.bench_file.specs.declared.file.BenchFile.{BenchFile}
 use Rattle.bench_file.specs.declared.file.Top.{Top}
 use Rattle.bench_file.specs.declared.refusal.FileRefusal.{FileRefusal}
@@ -32,12 +33,12 @@ pub no_bytes_are : (bytes : List ℕ) (b : Bool) → b ≡ true → b ≡ (lengt
 no_bytes_are bytes b f e = grind (arith, nat_tests)
 
 -- bytes whose one line is empty are none
-some_line : (s b : ℕ) (bs : List ℕ) (t : Bool) → length (cond t ([] ∷ parts s bs) (on_first b (parts s bs))) ≡ 1
-    → get_or (cond t ([] ∷ parts s bs) (on_first b (parts s bs))) 0 [] ≡ [] → ⊥
+some_line : (s b : ℕ) (bs : List ℕ) (t : Bool) → length (cond t ([] ∷ parts s bs) (onto_first b (parts s bs))) ≡ 1
+    → get_or (cond t ([] ∷ parts s bs) (onto_first b (parts s bs))) 0 [] ≡ [] → ⊥
 some_line s b bs true l e = omega (arith, l, parts_some s bs)
 some_line s b bs false l e = first (parts s bs) e
   where
-    first : (ps : List (List ℕ)) → get_or (on_first b ps) 0 [] ≡ [] → ⊥
+    first : (ps : List (List ℕ)) → get_or (onto_first b ps) 0 [] ≡ [] → ⊥
     first [] e = let z : ◌≡◌ {A = ℕ} 0 1 = cc in omega arith
     first (p ∷ ps) e = let z : ◌≡◌ {A = ℕ} 0 1 = cc in omega arith
 

@@ -14,7 +14,7 @@ use Rattle.session.specs.declared.answer.Answer.TheVariants as answer
 use Rattle.session.specs.declared.bench.Bench.{Bench}
 use Rattle.session.specs.declared.bench.Lending.{Lending}
 use Rattle.session.specs.Among.{raised}
-use Rattle.session.specs.Performing.{Performs, OnFlags, OnLevels, flags_heard, levels_heard}
+use Rattle.session.specs.Performing.{Performs, OnFlags, OnLevels, flags_heard, levels_heard, with_flags, with_levels}
 
 -- a slice of all that a vector holds, and what it holds at the end
 pub record Held {X : Type 0} (v : Vec X Global) (before after : List X) : Type 0 where
@@ -30,33 +30,26 @@ performs_in {V} {W} h b among raise lacking p l c a m m' cells bits rows xs xs' 
     (λ i. (lent m (one.was i) (two.was i) (three.was i), lent m' (sym (with_items_is cells xs' one.size) i) (sym (with_items_is bits ys' two.size) i) (sym (with_items_is rows zs' three.size) i)))
 
 module _ (l : Ledger) (c : SheetCall) (a : Answer) (m m' : Tables) (b : Bench) where
-  -- the bench after a call with the flags, and with the levels
-  abbrev pub flagged : List Bool → List Bool → List ℕ → Bench
-  flagged xs ys zs =
-      record { recorded = b.recorded; flags = with_items b.flags xs; levels = b.levels; bits = with_items b.bits ys; rows = with_items b.rows zs; lent = b.lent }
-
-  abbrev pub levelled : List Ternary → List Bool → List ℕ → Bench
-  levelled xs ys zs =
-      record { recorded = b.recorded; flags = b.flags; levels = with_items b.levels xs; bits = with_items b.bits ys; rows = with_items b.rows zs; lent = b.lent }
-
   pub on_flags : (words : List (Word Bool)) (xs xs' ys ys' : List Bool) (zs zs' : List ℕ) → Held b.flags xs xs' → Held b.bits ys ys' → Held b.rows zs zs'
       → Performs (flags_heard words) (flags_heard words) raised raised answer.NoRecording b.lent l c a (lent m xs ys zs) (lent m' xs' ys' zs')
-      → OnFlags l c a m m' b (flagged xs' ys' zs') words
+      → OnFlags l c a m m' b (with_flags xs' ys' zs' b) words
   on_flags words xs xs' ys ys' zs zs' one two three performs =
       record {
         performs = performs_in (flags_heard words) (flags_heard words) raised raised answer.NoRecording b.lent l c a m m' b.flags b.bits b.rows xs xs' ys ys' zs zs' one two three performs;
         levels = refl;
         recorded = refl;
         lends = refl;
+        alone = λ i. with_flags (sym (with_items_is b.flags xs' one.size) i) (sym (with_items_is b.bits ys' two.size) i) (sym (with_items_is b.rows zs' three.size) i) b;
       }
 
   pub on_levels : (words : List (Word Ternary)) (xs xs' : List Ternary) (ys ys' : List Bool) (zs zs' : List ℕ) → Held b.levels xs xs' → Held b.bits ys ys' → Held b.rows zs zs'
       → Performs (levels_heard words) (flags_heard []) (λ x. x) raised answer.NotTwoValued b.lent l c a (lent m xs ys zs) (lent m' xs' ys' zs')
-      → OnLevels l c a m m' b (levelled xs' ys' zs') words
+      → OnLevels l c a m m' b (with_levels xs' ys' zs' b) words
   on_levels words xs xs' ys ys' zs zs' one two three performs =
       record {
         performs = performs_in (levels_heard words) (flags_heard []) (λ x. x) raised answer.NotTwoValued b.lent l c a m m' b.levels b.bits b.rows xs xs' ys ys' zs zs' one two three performs;
         flags = refl;
         recorded = refl;
         lends = refl;
+        alone = λ i. with_levels (sym (with_items_is b.levels xs' one.size) i) (sym (with_items_is b.bits ys' two.size) i) (sym (with_items_is b.rows zs' three.size) i) b;
       }

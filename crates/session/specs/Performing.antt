@@ -1,6 +1,7 @@
 -- What a call of a script on its sheet answers, and what it leaves of all that is lent: what the library's call does, with
 -- the recording of the bench and the first so many cells and rows.
-use Rattle.std.specs.Prelude.{◌≡◌, Bool, List, [], ◌∷◌, ◌++◌, take, drop, Some, None, Option, vec_items}
+use Rattle.std.specs.Prelude.{◌≡◌, ℕ, Bool, List, [], ◌∷◌, ◌++◌, take, drop, Some, None, Option, vec_items}
+use Rattle.std.specs.Vec.{with_items}
 use Rattle.recording.specs.Kinds.{two, three}
 use Rattle.recording.specs.Made.{tape_word, gapped_word, wheel_word}
 use Rattle.recording.specs.Word.{Word}
@@ -50,6 +51,15 @@ flags_heard ws = record { kind = two; means = λ x. x; words = ws }
 abbrev pub levels_heard : List (Word Ternary) → Heard Ternary
 levels_heard ws = record { kind = three; means = λ x. x; words = ws }
 
+-- the bench with these cells and rows in place of its own
+abbrev pub with_flags : List Bool → List Bool → List ℕ → Bench → Bench
+with_flags xs ys zs b =
+    record { recorded = b.recorded; flags = with_items b.flags xs; levels = b.levels; bits = with_items b.bits ys; rows = with_items b.rows zs; lent = b.lent }
+
+abbrev pub with_levels : List Ternary → List Bool → List ℕ → Bench → Bench
+with_levels xs ys zs b =
+    record { recorded = b.recorded; flags = b.flags; levels = with_items b.levels xs; bits = with_items b.bits ys; rows = with_items b.rows zs; lent = b.lent }
+
 module _ (l : Ledger) (c : SheetCall) (a : Answer) (m m' : Tables) (before after : Bench) where
   -- with a two-valued recording, or none: judged with the flags
   pub record OnFlags (words : List (Word Bool)) : Type 0 where
@@ -57,6 +67,8 @@ module _ (l : Ledger) (c : SheetCall) (a : Answer) (m m' : Tables) (before after
     pub levels : after.levels ≡ before.levels
     pub recorded : after.recorded ≡ before.recorded
     pub lends : after.lent ≡ before.lent
+    -- and nothing else changes
+    pub alone : after ≡ with_flags (vec_items after.flags) (vec_items after.bits) (vec_items after.rows) before
 
   -- with a three-valued recording: judged with the levels, and no run is written out
   pub record OnLevels (words : List (Word Ternary)) : Type 0 where
@@ -64,6 +76,8 @@ module _ (l : Ledger) (c : SheetCall) (a : Answer) (m m' : Tables) (before after
     pub flags : after.flags ≡ before.flags
     pub recorded : after.recorded ≡ before.recorded
     pub lends : after.lent ≡ before.lent
+    -- and nothing else changes
+    pub alone : after ≡ with_levels (vec_items after.levels) (vec_items after.bits) (vec_items after.rows) before
 
 -- with the recording that there is
 abbrev pub OnBench : Option Recorded → Ledger → SheetCall → Answer → Tables → Tables → Bench → Bench → Type 0

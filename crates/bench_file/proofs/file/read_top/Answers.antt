@@ -1,5 +1,4 @@
 use Rattle.std.proofs.Common.{ℕ, List, [], get_or, drop, sym, ap, ◌∙◌, subst, arith}
-use Rattle.lexer.proofs.Naming.{refuted}
 use Rattle.lexer.specs.Names.{Good}
 use Rattle.bench_file.specs.Files.{lines, IsRight}
 use Rattle.bench_file.specs.Lines.{stem_of, cycle_of, rule_of}
@@ -14,7 +13,7 @@ returns-in_err-first c =
 
 pub returns-then-not-is_title : goal.returns-then-not-is_title
 returns-then-not-is_title c =
-    (omega arith, wrong_title _ _ _ c.in_ok-first.ensures (λ t. refuted _ c.if-not-is_title.true (c.is_title.ensures.1 t)))
+    (omega arith, wrong_title _ _ _ c.in_ok-first.ensures (λ t. cc (c.if-not-is_title.true, c.is_title.ensures.1 t)))
 
 pub returns-in_err-second : goal.returns-in_err-second
 returns-in_err-second c =
