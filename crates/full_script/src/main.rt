@@ -2,8 +2,8 @@
 #![tactic(auto)]
 
 use std::io;
-use talk::answer_input;
+use talk::answer_all;
 
 fn main(rt: HostRuntime) -> io::Result<()> {
-    answer_input(&rt, Some)
+    answer_all(&rt)
 }

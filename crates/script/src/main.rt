@@ -2,10 +2,9 @@
 // write runs out.
 #![tactic(auto)]
 
-use asked::call::runs::without_runs;
 use std::io;
-use talk::answer_input;
+use talk::answer_without_runs;
 
 fn main(rt: HostRuntime) -> io::Result<()> {
-    answer_input(&rt, without_runs)
+    answer_without_runs(&rt)
 }

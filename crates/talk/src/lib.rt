@@ -6,6 +6,7 @@ ghost use Rattle.talk.specs.Desks.{Tells};
 
 use asked::call::Call;
 use asked::call::reading::read_call;
+use asked::call::runs::without_runs;
 use input::read_input;
 use machine::place::Machine;
 use run::form::Sheet;
@@ -105,9 +106,9 @@ fn answer_lines<F: Fn(Call) -> Option<Call>>(
     Ok(())
 }
 
-/// Answers the lines of standard input, one after another: a line that is no call, or one that `allowed` gives none for,
-/// is told as unread, by its number. Input that is too long is not read at all.
-pub fn answer_input<F: Fn(Call) -> Option<Call>>(
+// Answers the lines of standard input, one after another: a line that is no call, or one that `allowed` gives none for,
+// is told as unread, by its number. Input that is too long is not read at all.
+fn answer_input<F: Fn(Call) -> Option<Call>>(
     rt: &(impl Print + Input + AllocGlobal),
     allowed: F,
 ) -> io::Result<()>
@@ -118,4 +119,14 @@ pub fn answer_input<F: Fn(Call) -> Option<Call>>(
         return println!(rt; "unread: too long");
     }
     answer_lines(rt, text.as_slice(), &allowed)
+}
+
+/// Answers the lines of standard input, of all calls. No contract can say what a terminal gives and takes.
+pub fn answer_all(rt: &(impl Print + Input + AllocGlobal)) -> io::Result<()> {
+    answer_input(rt, Some)
+}
+
+/// Answers the lines of standard input, but for the calls that write runs out, which it tells as unread.
+pub fn answer_without_runs(rt: &(impl Print + Input + AllocGlobal)) -> io::Result<()> {
+    answer_input(rt, without_runs)
 }
