@@ -9,12 +9,12 @@ use Rattle.sheet.specs.Sheets.{lines_of}
 use Rattle.sheet.specs.Table.{lines_with, named_line, operands_of, operands, fits, blank, Sheet}
 use Rattle.sheet.proofs.Lowering.{fits_lower}
 
-pub length_lines : (d : Draft) → length (lines_of d) ≡ length d.lines.items
+pub length_lines : (d : Draft) → length (lines_of d) ≡ length d.lines
 length_lines d = refl
 
 -- the lines of a draft name lower lines
 pub draft_sheet : (d : Draft) → Sheet (lines_of d)
-draft_sheet d k h = fits_lower k (get_or d.lines.items k blank) (d.lower k h)
+draft_sheet d k h = fits_lower k (get_or d.lines k blank) (d.lower k h)
 
 -- P of each item of a list, as a tuple
 abbrev Each : {A : Type 0} → (A → Type 0) → List A → Type 0

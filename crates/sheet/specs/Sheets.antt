@@ -9,7 +9,7 @@ use Rattle.sheet.specs.Ledger.{Ledger, Answer, Drafted, Shut, Written, Done, Ref
 use Rattle.sheet.specs.Refusals.{number_of}
 
 abbrev pub lines_of : Draft → List Line
-lines_of d = d.lines.items
+lines_of d = d.lines
 
 abbrev pub sealed_lines : Sealed → List Line
 sealed_lines s = lines_of s.draft

@@ -1,15 +1,15 @@
 ghost use Rattle.std.specs.Prelude.{◌≡◌, ℕ, ◌<◌, ◌≤◌, true, length, slice_index_or};
 ghost use Rattle.sheet.specs.Table.{fits, blank};
 
-use crate::line::Line;
-use arrayvec::ArrayVec;
+use crate::draft::lines::Lines;
 
 pub mod calls;
+pub(crate) mod lines;
 
 /// A sheet that takes lines and gives them up.
 #[derive(Drop)]
 pub struct Draft {
-    lines: ArrayVec<Line, 64>,
-    ghost room: { length lines.items ≤ 64 },
-    ghost lower: { (k : ℕ) → k < length lines.items → fits k (slice_index_or lines.items k blank) ≡ true },
+    lines: Lines,
+    ghost room: { length lines ≤ 64 },
+    ghost lower: { (k : ℕ) → k < length lines → fits k (slice_index_or lines k blank) ≡ true },
 }

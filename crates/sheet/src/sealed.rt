@@ -9,7 +9,7 @@ pub mod calls;
 #[derive(Drop)]
 pub struct Sealed {
     draft: Draft,
-    ghost some: { 0 < length draft.lines.items },
+    ghost some: { 0 < length draft.lines },
 }
 
 /// A draft that was not sealed, handed back as it was, and why.

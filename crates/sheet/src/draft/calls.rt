@@ -4,9 +4,9 @@ ghost use Rattle.sheet.specs.Ledger.{fed, pushed, Write, Strike};
 ghost use Rattle.sheet.specs.Sheets.{lines_of, drafted, written, done};
 
 use crate::draft::Draft;
+use crate::draft::lines::Lines;
 use crate::line::Line;
 use crate::refusal::Refusal;
-use arrayvec::ArrayVec;
 
 impl Draft {
     /// The empty draft.
@@ -14,7 +14,7 @@ impl Draft {
         ensures { lines_of result ≡ [] }
     {
         Draft {
-            lines: ArrayVec::new(),
+            lines: Lines::new(),
         }
     }
 
@@ -29,7 +29,7 @@ impl Draft {
     pub fn is_empty(&self) -> bool
         ensures { result ≡ (length (lines_of self.now) == 0) }
     {
-        self.lines.is_empty()
+        self.len() == 0
     }
 
     /// The lines, in order.
@@ -47,7 +47,10 @@ impl Draft {
         if !line.fits(number) {
             return Err(Refusal::Operand);
         }
-        self.lines.try_push(line).map_err(|_| Refusal::Full)?;
+        if number == 64 {
+            return Err(Refusal::Full);
+        }
+        self.lines.push(line);
         Ok(number as u8)
     }
 
@@ -66,7 +69,11 @@ impl Draft {
     pub fn strike(&mut self) -> Result<(), Refusal>
         ensures { (done result, drafted self.new) ≡ fed (drafted self.old) Strike }
     {
-        self.lines.pop().map(|_| ()).ok_or(Refusal::Empty)
+        if self.is_empty() {
+            return Err(Refusal::Empty);
+        }
+        self.truncate(self.len() - 1);
+        Ok(())
     }
 
     /// Keeps the first `kept` lines, where there are more, and takes the others off.
