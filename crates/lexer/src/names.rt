@@ -4,7 +4,7 @@ ghost use Rattle.std.specs.Iterator.Adapters.{take_count, take_source};
 ghost use Rattle.lexer.specs.Names.{IsName, IsFirst, Opened, Finds, known, line_of, names_number, spaced};
 ghost use Rattle.lexer.specs.Parts.{Nth, parts_left};
 
-use crate::parts::Parts;
+use crate::parts::{Parts, nth_part};
 use std::iter::Take;
 
 /// The names of a line of 1 to 32 different names, parted by one space. A name is 1 to 8 lower-case letters.
@@ -43,9 +43,12 @@ impl<'a> Names<'a> {
     pub fn new(bytes: &'a [u8]) -> Result<Names<'a>, NamesRefusal>
         ensures { Opened bytes.now result }
     {
+        if nth_part(bytes, b' ', 32).is_some() {
+            return Err(NamesRefusal::Malformed);
+        }
         let names = Names { bytes };
-        let good = Parts::new(bytes, b' ').enumerate().all(|(number, name)| {
-            number < 32 && is_name(name) && names.is_first(name, number as u8)
+        let good = names.iter().enumerate().all(|(number, name)| {
+            is_name(name) && names.is_first(name, number as u8)
         });
         if good {
             Ok(names)
@@ -73,7 +76,10 @@ impl<'a> Names<'a> {
     pub fn get(&self, number: u8) -> Option<&'a [u8]>
         ensures { Nth (known self.now) number result }
     {
-        self.iter().nth(number as usize)
+        if number >= 32 {
+            return None;
+        }
+        nth_part(self.bytes, b' ', number as usize)
     }
 
     // Whether that is the first number that has the name.
