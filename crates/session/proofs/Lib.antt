@@ -4,3 +4,4 @@ pub mod Straying
 pub mod Counting
 pub mod Refilling
 pub mod Narrowing
+pub mod Telling

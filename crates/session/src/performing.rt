@@ -10,7 +10,7 @@ ghost use Rattle.session.specs.Replies.{made_as};
 use crate::among::AmongThree;
 use crate::answer::Answer;
 use crate::bench::{Bench, Lending, Recorded};
-use crate::replying::{call_of, filled_by, told};
+use crate::replying::{call_of, told};
 use asked::call::SheetCall;
 use machine::place::Machine;
 use recording::gapped::GappedTape;
@@ -46,7 +46,6 @@ where
     ensures ledger { ledger_of result.sheet ≡ next_ledger (ledger_of sheet) (made_as call) }
     ensures performs { Performs (heard R.Truth.Truth.kind R.Truth.Truth.means R.Recording.word judged.now) (heard B.Truth.Truth.kind B.Truth.Truth.means B.Recording.word written.now) R.Truth.AmongThree.three B.Truth.AmongThree.three lacking lending (ledger_of sheet) call result.answer (lent_of (tables machine.old) cells.old bits.old rows.old) (lent_of (tables machine.new) cells.new bits.new rows.new) }
 {
-    let filled = filled_by(&sheet, judged);
     let cell_count = lending.cells.min(cells.len() as u128) as usize;
     let bit_count = lending.cells.min(bits.len() as u128) as usize;
     let row_count = lending.rows.min(rows.len() as u128) as usize;
@@ -60,9 +59,10 @@ where
         &mut bits[..bit_count],
         &mut rows[..row_count],
     );
+    let answer = told(call, &stepped.sheet, judged, lacking, stepped.answer);
     Stepped {
         sheet: stepped.sheet,
-        answer: told(call, filled, lacking, stepped.answer),
+        answer,
     }
 }
 

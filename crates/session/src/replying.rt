@@ -41,7 +41,7 @@ fn samples_on<R: Recording>(sheet: &Sealed, judged: &[R]) -> usize
 }
 
 // How much judging fills, where it can be called.
-pub(crate) fn filled_by<R: Recording>(sheet: &Sheet, judged: &[R]) -> Filled
+fn filled_by<R: Recording>(sheet: &Sheet, judged: &[R]) -> Filled
     ensures { result ≡ filled_on (ledger_of sheet.now) (map R.word judged.now) }
 {
     match sheet {
@@ -66,14 +66,17 @@ fn done(call: SheetCall) -> Answer
     }
 }
 
-// What a script is told; `lacking` where there is no recording to call on.
-pub(crate) fn told<V: AmongThree, W: AmongThree>(
+// What a script is told of a reply after which the sheet is this one; `lacking` where there is no recording to call on.
+pub(crate) fn told<R: Recording, W: AmongThree>(
     call: SheetCall,
-    filled: Filled,
+    sheet: &Sheet,
+    judged: &[R],
     lacking: Answer,
-    reply: Reply<V, W>,
+    reply: Reply<R::Truth, W>,
 ) -> Answer
-    ensures { result ≡ told_as V.AmongThree.three W.AmongThree.three call filled lacking reply }
+where
+    R::Truth: AmongThree,
+    ensures { result ≡ told_as R.Truth.AmongThree.three W.AmongThree.three call (filled_on (ledger_of sheet.now) (map R.Recording.word judged.now)) lacking reply }
 {
     match reply {
         Reply::Line(number) => Answer::Line(number),
@@ -81,7 +84,7 @@ pub(crate) fn told<V: AmongThree, W: AmongThree>(
         Reply::Refused(refusal) => Answer::Refused(refusal.number()),
         Reply::Verdict(value) => Answer::Values(Judged {
             verdict: value.as_ternary(),
-            filled,
+            filled: filled_by(sheet, judged),
         }),
         Reply::Run(run) => Answer::Run(Written {
             rows: run.rows,
