@@ -3,3 +3,5 @@
 
 pub mod call;
 pub mod number;
+#[cfg(test)]
+mod tests;

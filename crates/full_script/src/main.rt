@@ -1,9 +1,8 @@
 // Reads calls from standard input, one a line, and prints each answer before the next call is made. It knows all calls.
 #![tactic(auto)]
 
-use std::io;
 use talk::answer_all;
 
-fn main(rt: HostRuntime) -> io::Result<()> {
+fn main(rt: HostRuntime) -> anyhow::Result<()> {
     answer_all(&rt)
 }

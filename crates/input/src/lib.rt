@@ -1,18 +1,23 @@
-// Standard input, as far as a limit.
+// Standard input, as far as a buffer goes.
 #![tactic(auto)]
 
-ghost use Rattle.std.specs.Prelude.{◌≤◌, IfOk, vec_len};
+ghost use Rattle.std.specs.Prelude.{◌≤◌, length, IfOk};
 
 use std::io;
 use std::io::Read;
 
-/// What standard input has, or its first `most` bytes.
-pub fn read_input(rt: &(impl Input + AllocGlobal), most: usize) -> io::Result<Vec<u8>>
-    ensures { IfOk result (λ bytes. vec_len bytes ≤ most) }
+/// Reads standard input until it ends or the buffer is full, and answers how many bytes came.
+pub fn read_input(rt: &impl Input, buf: &mut [u8]) -> io::Result<usize>
+    ensures { IfOk result (λ n. n ≤ length buf.new) }
 {
-    let mut bytes = Vec::new(rt.alloc());
-    rt.reader().take(most as u64).read_to_end(&mut bytes)?;
-    // `take` has read no more, but what `read_to_end` promises doesn't say so
-    bytes.truncate(most);
-    Ok(bytes)
+    let mut used = 0;
+    let mut input = rt.reader();
+    while used < buf.len() {
+        let n = input.read(&mut buf[used..])?;
+        if n == 0 {
+            break;
+        }
+        used += n;
+    }
+    Ok(used)
 }

@@ -9,9 +9,10 @@ use recording::truth::Ternary;
 const MOST: usize = 16_385;
 
 fn main(rt: HostRuntime) -> anyhow::Result<()> {
-    let bytes = read_input(&rt, MOST)?;
+    let mut buf = vec![in rt.alloc(); 0u8; MOST]?;
     let mut cells = vec![in rt.alloc(); Ternary::No; CELLS]?;
-    match report(&bytes, &mut cells) {
+    let used = read_input(&rt, &mut buf)?;
+    match report(&buf[..used], &mut cells) {
         Ok(report) => print!(rt; "{report}")?,
         Err(refusal) => print!(rt; "{refusal}")?,
     }

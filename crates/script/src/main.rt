@@ -2,9 +2,8 @@
 // write runs out.
 #![tactic(auto)]
 
-use std::io;
 use talk::answer_without_runs;
 
-fn main(rt: HostRuntime) -> io::Result<()> {
+fn main(rt: HostRuntime) -> anyhow::Result<()> {
     answer_without_runs(&rt)
 }

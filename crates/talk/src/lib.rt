@@ -2,11 +2,12 @@
 #![tactic(auto)]
 
 ghost use Rattle.std.specs.Prelude.{◌≡◌, IfOk, OnErr};
-ghost use Rattle.talk.specs.Desks.{Tells};
+ghost use Rattle.session.specs.Benches.{Fresh};
+ghost use Rattle.talk.specs.Desks.{read_by, Answered, Tells};
+ghost use Rattle.asked.specs.Reading.{said_in};
 
 use asked::call::Call;
-use asked::call::reading::read_call;
-use asked::call::runs::without_runs;
+use asked::call::reading::{read_call, read_call_without_runs};
 use input::read_input;
 use machine::place::Machine;
 use run::form::Sheet;
@@ -14,9 +15,12 @@ use session::answer::Answer;
 use session::bench::Bench;
 use session::performing::perform;
 use std::alloc::{AllocError, Global};
-use std::{io, mem};
+use std::io;
 use tables::printed::Printed;
 use telling::told::{JudgedRows, RunRows, Told};
+
+#[cfg(test)]
+mod tests;
 
 /// How many bytes of input are read at most.
 const MOST: usize = 1_048_576;
@@ -26,39 +30,87 @@ const CELLS: usize = 278_528;
 
 const ROWS: usize = 4_352;
 
-// All that the calls of a script are made on.
+// Which calls a script has.
+#[derive(Clone, Copy)]
+enum Calls {
+    All,
+    WithoutRuns,
+}
+
+// What the calls of a script are made on, beside its sheet, and which calls it has.
 #[derive(Drop)]
 struct Desk {
-    sheet: Sheet,
+    calls: Calls,
     machine: Machine,
     bench: Bench,
 }
 
 impl Desk {
-    fn new(heap: Global) -> Result<Desk, AllocError> {
+    fn new(heap: Global, calls: Calls) -> Result<Desk, AllocError>
+        ensures calls { IfOk result (λ d. d.calls ≡ calls) }
+        ensures bench { IfOk result (λ d. Fresh 278_528 4_352 d.bench) }
+    {
         Ok(Desk {
-            sheet: Sheet::new(),
+            calls,
             machine: Machine::new(),
             bench: Bench::new(heap, CELLS, ROWS)?,
         })
     }
 
-    // Makes the call; where memory is short, it changes nothing.
-    fn answer(&mut self, heap: Global, call: Call) -> Result<Told, AllocError>
-        ensures tells { IfOk result (Tells call self.old self.new) }
-        ensures short { OnErr result (self.new ≡ self.old) }
+    // The call that the line is, if the script has it.
+    fn read(&self, heap: Global, line: &[u8]) -> Result<Option<Call>, AllocError>
+        ensures { IfOk result (λ o. said_in o ≡ read_by self.now.calls line.now) }
+    {
+        match self.calls {
+            Calls::All => read_call(heap, line),
+            Calls::WithoutRuns => read_call_without_runs(heap, line),
+        }
+    }
+
+    // Makes the call, and gives the sheet back; where memory is short, it changes nothing.
+    fn answer(
+        &mut self,
+        heap: Global,
+        sheet: Sheet,
+        call: Call,
+    ) -> (Sheet, Result<Told, AllocError>)
+        ensures tells { IfOk result.1 (Tells call sheet result.0 self.old self.new) }
+        ensures calls { self.new.calls ≡ self.old.calls }
+        ensures short { OnErr result.1 ((result.0 ≡ sheet) × (self.new ≡ self.old)) }
     {
         let verb = call.verb();
-        let answer = match call {
+        let (sheet, answer) = match call {
             Call::OnSheet(call) => {
-                let sheet = mem::replace(&mut self.sheet, Sheet::new());
                 let stepped = perform(sheet, call, &mut self.machine, &mut self.bench);
-                self.sheet = stepped.sheet;
-                stepped.answer
+                (stepped.sheet, Ok(stepped.answer))
             }
-            Call::OnBench(call) => self.bench.answer(heap, call, &self.machine)?,
+            Call::OnBench(call) => (sheet, self.bench.answer(heap, call, &self.machine)),
         };
-        Ok(Told { verb, answer })
+        match answer {
+            Ok(answer) => (sheet, Ok(Told { verb, answer })),
+            Err(error) => (sheet, Err(error)),
+        }
+    }
+
+    // Makes the call that the line is, if the script has it.
+    fn answer_line(
+        &mut self,
+        heap: Global,
+        sheet: Sheet,
+        line: &[u8],
+    ) -> (Sheet, Result<Option<Told>, AllocError>)
+        ensures answers { IfOk result.1 (Answered (read_by self.old.calls line.now) sheet result.0 self.old self.new) }
+        ensures calls { self.new.calls ≡ self.old.calls }
+        ensures short { OnErr result.1 ((result.0 ≡ sheet) × (self.new ≡ self.old)) }
+    {
+        match self.read(heap, line) {
+            Ok(Some(call)) => {
+                let (sheet, told) = self.answer(heap, sheet, call);
+                (sheet, told.map(Some))
+            }
+            Ok(None) => (sheet, Ok(None)),
+            Err(error) => (sheet, Err(error)),
+        }
     }
 
     // Prints an answer, and what follows it.
@@ -84,49 +136,43 @@ impl Desk {
     }
 }
 
-// Answers the lines of a text: those that are no call, or a call that is not allowed, as unread.
-fn answer_lines<F: Fn(Call) -> Option<Call>>(
+// Answers the lines of a text, one after another: a line that is no call of the script is told as unread, by its number.
+fn answer_lines(
     rt: &(impl Print + AllocGlobal),
     text: &[u8],
-    allowed: &F,
-) -> io::Result<()>
-    requires { F.IsAlwaysCallable allowed.now }
-{
-    let mut desk = Desk::new(rt.alloc())?;
+    mut desk: Desk,
+) -> anyhow::Result<()> {
+    let mut sheet = Sheet::new();
     for (number, line) in text.split_inclusive(|byte| *byte == b'\n').enumerate() {
         let line = line.strip_suffix(b"\n").unwrap_or(line);
-        match read_call(rt.alloc(), line)?.and_then(|call| allowed(call)) {
-            Some(call) => {
-                let told = desk.answer(rt.alloc(), call)?;
-                desk.tell(rt, told)?;
-            }
+        let (after, told) = desk.answer_line(rt.alloc(), sheet, line);
+        sheet = after;
+        match told? {
+            Some(told) => desk.tell(rt, told)?,
             None => println!(rt; "unread: {number}")?,
         }
     }
     Ok(())
 }
 
-// Answers the lines of standard input, one after another: a line that is no call, or one that `allowed` gives none for,
-// is told as unread, by its number. Input that is too long is not read at all.
-fn answer_input<F: Fn(Call) -> Option<Call>>(
-    rt: &(impl Print + Input + AllocGlobal),
-    allowed: F,
-) -> io::Result<()>
-    requires { F.IsAlwaysCallable allowed }
-{
-    let text = read_input(rt, MOST + 1)?;
-    if text.len() > MOST {
-        return println!(rt; "unread: too long");
+// Answers the lines of standard input. Input that is too long is not read at all.
+fn answer_input(rt: &(impl Print + Input + AllocGlobal), calls: Calls) -> anyhow::Result<()> {
+    let mut buf = vec![in rt.alloc(); 0u8; MOST + 1]?;
+    let used = read_input(rt, &mut buf)?;
+    if used > MOST {
+        println!(rt; "unread: too long")?;
+        return Ok(());
     }
-    answer_lines(rt, text.as_slice(), &allowed)
+    let desk = Desk::new(rt.alloc(), calls)?;
+    answer_lines(rt, &buf[..used], desk)
 }
 
 /// Answers the lines of standard input, of all calls. No contract can say what a terminal gives and takes.
-pub fn answer_all(rt: &(impl Print + Input + AllocGlobal)) -> io::Result<()> {
-    answer_input(rt, Some)
+pub fn answer_all(rt: &(impl Print + Input + AllocGlobal)) -> anyhow::Result<()> {
+    answer_input(rt, Calls::All)
 }
 
 /// Answers the lines of standard input, but for the calls that write runs out, which it tells as unread.
-pub fn answer_without_runs(rt: &(impl Print + Input + AllocGlobal)) -> io::Result<()> {
-    answer_input(rt, without_runs)
+pub fn answer_without_runs(rt: &(impl Print + Input + AllocGlobal)) -> anyhow::Result<()> {
+    answer_input(rt, Calls::WithoutRuns)
 }

@@ -1,6 +1,7 @@
 // Which call a line of a script is.
-ghost use Rattle.std.specs.Prelude.{◌≡◌, ◌<◌, ◌↔◌, length, drop, IfOk, IfSome, IsNone};
-ghost use Rattle.asked.specs.Reading.{OnSheet, byte as byte_of, verb_of, alone as alone_of, only as only_of, writes, sizes_in, tapes, gaps, turns, checks, call_of, items_in, call_on, sheet_verb, bench_verb, call_verb, said, said_in};
+ghost use Rattle.std.specs.Prelude.{◌≡◌, ◌<◌, ◌↔◌, length, drop, Some, IfOk, IfSome, IsNone};
+ghost use Rattle.asked.specs.Reading.{OnSheet, byte as byte_of, verb_of, alone as alone_of, only as only_of, writes, sizes_in, tapes, gaps, turns, checks, call_of, named as named_with, items_in, call_on, sheet_verb, bench_verb, call_verb, said, said_in};
+ghost use Rattle.asked.specs.Runs.{call_without_runs};
 ghost use Rattle.asked.specs.Words.{numbers};
 ghost use Rattle.lexer.specs.Parts.{parts_left};
 
@@ -199,16 +200,35 @@ fn read_numbers(heap: Global, words: Parts<'_>) -> Result<Option<Vec<u128>>, All
     Ok(Some(found))
 }
 
+// The call of this name with the numbers that the words are, if they all are.
+fn with_words(heap: Global, verb: Verb, words: Parts<'_>) -> Result<Option<Call>, AllocError>
+    ensures { IfOk result (λ o. said_in o ≡ named_with (Some verb) (numbers (parts_left words.entry))) }
+{
+    match read_numbers(heap, words)? {
+        Some(numbers) => with_numbers(heap, verb, numbers.as_slice()),
+        None => Ok(None),
+    }
+}
+
 /// The call that a line of a script is, if it is one.
 pub fn read_call(heap: Global, line: &[u8]) -> Result<Option<Call>, AllocError>
     ensures { IfOk result (λ o. said_in o ≡ call_on line.now) }
 {
     let mut words = Parts::new(line, b' ');
-    let Some(verb) = words.next().and_then(named) else {
-        return Ok(None);
-    };
-    match read_numbers(heap, words)? {
-        Some(numbers) => with_numbers(heap, verb, numbers.as_slice()),
+    match words.next().and_then(named) {
+        Some(verb) => with_words(heap, verb, words),
         None => Ok(None),
+    }
+}
+
+/// The call that a line is, unless it is for runs: that is known by its name, before a number is read.
+#[tactic(auto, using(crate::proofs::Runs::kept))]
+pub fn read_call_without_runs(heap: Global, line: &[u8]) -> Result<Option<Call>, AllocError>
+    ensures { IfOk result (λ o. said_in o ≡ call_without_runs line.now) }
+{
+    let mut words = Parts::new(line, b' ');
+    match words.next().and_then(named) {
+        None | Some(Verb::Rows | Verb::Run) => Ok(None),
+        Some(verb) => with_words(heap, verb, words),
     }
 }
