@@ -164,11 +164,9 @@ further_longer {width = width} {hi = hi} {most = most} hm hh copied i h d =
     copied.others d i (λ t a h₁ h₂ ha e. omega (arith, mul-add-lt t width a hi h₂ (omega arith), mul-le width hi width most (omega arith) hh))
 
 -- all samples of a table that reaches no further than the cells
-pub roomy : {V : Type 0} (lines : List Line) (w : Word V) (cells : List V) (width m : ℕ) → width ≡ length lines
-    → length lines * horizon lines w ≤ length cells → m ≤ horizon lines w → Room cells width m
-roomy lines w cells width m same h le =
-    subst (λ x. Room cells x m) (sym same)
-    (room cells (length lines) m (omega (arith, mul-le (length lines) m (length lines) (horizon lines w) (omega arith) le)))
+pub roomy : {V : Type 0} (lines : List Line) (w : Word V) (cells : List V) (m : ℕ)
+    → length lines * horizon lines w ≤ length cells → m ≤ horizon lines w → Room cells (length lines) m
+roomy lines w cells m h le = room cells (length lines) m (omega (arith, mul-le (length lines) m (length lines) (horizon lines w) (omega arith) le))
 
 -- samples that do not reach the end have a level to go
 pub level_more : {V : Type 0} (lines : List Line) (w : Word V) (samples n : ℕ) → Reach w samples n → samples < horizon lines w
@@ -187,8 +185,6 @@ reach_all lines w samples n r few h =
 
 -- what a turn of the evaluator's loop may count on: line k, its depth, and how much deeper it is than those below
 pub record Turn {V : Type 0} (lines : List Line) (w : Word V) (depths : List ℕ) (samples n k depth more : ℕ) : Type 0 where
-  pub sheet : Sheet lines
-  pub below : k < length lines
   pub small_line : k < 64
   pub is : depth ≡ deep (λ a. get_or depths a 0) (line lines k)
   pub small : depth ≤ 64
@@ -197,25 +193,19 @@ pub record Turn {V : Type 0} (lines : List Line) (w : Word V) (depths : List ℕ
   pub within : samples + more * w.cycle ≤ horizon lines w
   pub reach : Reach w (samples + more * w.cycle) (n + more)
 
--- read are the lines as the loop reads them
-pub turn_is : (K : Kind) {V : Type 0} (means : V → K.Value) {lines read : List Line} (w : Word V) → read ≡ lines → Sheet read → length read ≤ 64 → HasSignals lines w.signals
-    → {depths : List ℕ} {samples n k : ℕ} → k < length read → Reach w samples n → Deep K means lines w depths n k
-    → {under_it bit more : ℕ} {back : Bool} → under_it ≡ under (λ a. get_or depths a 0) (line read k) → back ≡ eqb (past (line read k)) 1 → bit ≡ from_bool back
+pub turn_is : (K : Kind) {V : Type 0} (means : V → K.Value) {lines : List Line} (w : Word V) → Sheet lines → length lines ≤ 64 → HasSignals lines w.signals
+    → {depths : List ℕ} {samples n k : ℕ} → k < length lines → Reach w samples n → Deep K means lines w depths n k
+    → {under_it bit more : ℕ} {back : Bool} → under_it ≡ under (λ a. get_or depths a 0) (line lines k) → back ≡ eqb (past (line lines k)) 1 → bit ≡ from_bool back
     → more ≡ under_it + bit - n → Turn lines w depths samples n k (under_it + bit) more
-turn_is K means {lines} {read} w are sheet short named {depths} {samples} {n} {k} below reach deeps {under_it} {bit} {more} {back} eu eb ei em =
-    let same : Sheet lines = subst Sheet are sheet in
-    let few_lines : length lines ≤ 64 = subst (λ ls. length ls ≤ 64) are short in
-    let here : k < length lines = subst (λ ls. k < length ls) are below in
-    let looks : bit ≡ past (line lines k) = ei ∙ ap from_bool (subst (λ ls. back ≡ eqb (past (line ls k)) 1) are eb) ∙ past_bit (line lines k) in
-    let is : under_it + bit ≡ deep (λ a. get_or depths a 0) (line lines k) = ap₂ ◌+◌ (subst (λ ls. under_it ≡ under (λ a. get_or depths a 0) (line ls k)) are eu) looks in
-    let few : n + more ≤ pasts (line lines) (k + 1) = omega (arith, deep_few K means lines w same named depths n k here (omega arith) deeps) in
-    let one : more ≤ 1 = omega (arith, one_deeper K means lines w same named depths n k here (omega arith) deeps) in
+turn_is K means {lines} w sheet short named {depths} {samples} {n} {k} below reach deeps {under_it} {bit} {more} {back} eu eb ei em =
+    let looks : bit ≡ past (line lines k) = ei ∙ ap from_bool eb ∙ past_bit (line lines k) in
+    let is : under_it + bit ≡ deep (λ a. get_or depths a 0) (line lines k) = ap₂ ◌+◌ eu looks in
+    let few : n + more ≤ pasts (line lines) (k + 1) = omega (arith, deep_few K means lines w sheet named depths n k below (omega arith) deeps) in
+    let one : more ≤ 1 = omega (arith, one_deeper K means lines w sheet named depths n k below (omega arith) deeps) in
     record {
-      sheet = same;
-      below = here;
       small_line = omega arith;
       is = is;
-      small = omega (arith, own_most K means lines w same named depths n k here (omega arith) deeps, past_most (line lines k), deeps.few, pasts_count (line lines) k);
+      small = omega (arith, own_most K means lines w sheet named depths n k below (omega arith) deeps, past_most (line lines k), deeps.few, pasts_count (line lines) k);
       few = omega (arith, pasts_count (line lines) (k + 1));
       turn = omega (arith, mul-le more w.cycle 1 w.cycle one (omega arith));
       reach = reach_longer w samples n more reach;

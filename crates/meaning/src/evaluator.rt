@@ -3,7 +3,7 @@ ghost use Rattle.std.specs.Prelude.{◌≡◌, suc, ◌+◌, ◌-◌, ◌*◌, �
 ghost use Rattle.meaning.specs.Sheet.{constant, rule_of};
 ghost use Rattle.recording.specs.Word.{meant};
 ghost use Rattle.sheet.specs.Sheets.{sealed_lines};
-ghost use Rattle.sheet.specs.Table.{Lower, Named};
+ghost use Rattle.sheet.specs.Table.{Lower, Named, Sheet as IsSheet};
 ghost use Rattle.meaning.specs.Cells.{column, Fills, HasColumn};
 ghost use Rattle.meaning.specs.Columns.{written};
 ghost use Rattle.meaning.specs.Verdict.{Verdict};
@@ -11,7 +11,7 @@ ghost use Rattle.meaning.specs.Verdict.{Verdict};
 use crate::backward::{fill_previous, fill_since};
 use crate::cells::Grid;
 use crate::depth::depth_under;
-use crate::extent::extent_of;
+use crate::extent::extent_of_lines;
 use crate::forward::fill_until;
 use crate::pointwise::{fill, fill_next, value_of};
 use crate::refusal::Refusal;
@@ -67,18 +67,18 @@ fn fill_line<R: Recording>(
     }
 }
 
-/// Judges a sealed sheet on a recording: sets cell t * L + k to the value of line k at sample t, for each of the L lines
-/// and each sample below S + v, where S is the stem and a cycle v for each line that looks back; keeps further cells; and
-/// answers the value of the rule, the last line, at sample 0.
-pub fn judge<R: Recording>(
-    sheet: &Sealed,
+// Judges the lines of a sheet.
+fn judge_lines<R: Recording>(
+    lines: &[Line],
     recording: &R,
     cells: &mut [R::Truth],
 ) -> Result<R::Truth, Refusal>
-    ensures { Verdict R.Truth.Truth.kind R.Truth.Truth.means (sealed_lines sheet.now) (R.Recording.word recording.now) (rule_of (sealed_lines sheet.now)) 0 cells.old cells.new result }
+    requires sheet { IsSheet lines.now }
+    requires some { 0 < length lines.now }
+    requires few { length lines.now ≤ 64 }
+    ensures { Verdict R.Truth.Truth.kind R.Truth.Truth.means lines.now (R.Recording.word recording.now) (rule_of lines.now) 0 cells.old cells.new result }
 {
-    let extent = extent_of(sheet, recording, cells.len())?;
-    let lines = sheet.lines();
+    let extent = extent_of_lines(lines, recording, cells.len())?;
     let width = lines.len();
     let cycle = recording.cycle() as usize;
     let mut samples = recording.stem() as usize + cycle;
@@ -129,4 +129,17 @@ pub fn judge<R: Recording>(
         samples += cycle;
     }
     Ok(cells[width - 1])
+}
+
+/// Judges a sealed sheet on a recording: sets cell t * L + k to the value of line k at sample t, for each of the L lines
+/// and each sample below S + v, where S is the stem and a cycle v for each line that looks back; keeps further cells; and
+/// answers the value of the rule, the last line, at sample 0.
+pub fn judge<R: Recording>(
+    sheet: &Sealed,
+    recording: &R,
+    cells: &mut [R::Truth],
+) -> Result<R::Truth, Refusal>
+    ensures { Verdict R.Truth.Truth.kind R.Truth.Truth.means (sealed_lines sheet.now) (R.Recording.word recording.now) (rule_of (sealed_lines sheet.now)) 0 cells.old cells.new result }
+{
+    judge_lines(sheet.lines(), recording, cells)
 }
