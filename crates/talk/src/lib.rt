@@ -15,7 +15,7 @@ use session::answer::Answer;
 use session::bench::Bench;
 use session::performing::perform;
 use std::alloc::{AllocError, Global};
-use std::io;
+use std::{io, mem};
 use tables::printed::Printed;
 use telling::told::{JudgedRows, RunRows, Told};
 
@@ -37,10 +37,11 @@ enum Calls {
     WithoutRuns,
 }
 
-// What the calls of a script are made on, beside its sheet, and which calls it has.
+// All that the calls of a script are made on, and which calls it has.
 #[derive(Drop)]
 struct Desk {
     calls: Calls,
+    sheet: Sheet,
     machine: Machine,
     bench: Bench,
 }
@@ -52,6 +53,7 @@ impl Desk {
     {
         Ok(Desk {
             calls,
+            sheet: Sheet::new(),
             machine: Machine::new(),
             bench: Bench::new(heap, CELLS, ROWS)?,
         })
@@ -67,49 +69,34 @@ impl Desk {
         }
     }
 
-    // Makes the call, and gives the sheet back; where memory is short, it changes nothing.
-    fn answer(
-        &mut self,
-        heap: Global,
-        sheet: Sheet,
-        call: Call,
-    ) -> (Sheet, Result<Told, AllocError>)
-        ensures tells { IfOk result.1 (Tells call sheet result.0 self.old self.new) }
+    // Makes the call; where memory is short, it changes nothing.
+    fn answer(&mut self, heap: Global, call: Call) -> Result<Told, AllocError>
+        ensures tells { IfOk result (Tells call self.old self.new) }
         ensures calls { self.new.calls ≡ self.old.calls }
-        ensures short { OnErr result.1 ((result.0 ≡ sheet) × (self.new ≡ self.old)) }
+        ensures short { OnErr result (self.new ≡ self.old) }
     {
         let verb = call.verb();
-        let (sheet, answer) = match call {
+        let answer = match call {
             Call::OnSheet(call) => {
+                let sheet = mem::replace(&mut self.sheet, Sheet::new());
                 let stepped = perform(sheet, call, &mut self.machine, &mut self.bench);
-                (stepped.sheet, Ok(stepped.answer))
+                self.sheet = stepped.sheet;
+                stepped.answer
             }
-            Call::OnBench(call) => (sheet, self.bench.answer(heap, call, &self.machine)),
+            Call::OnBench(call) => self.bench.answer(heap, call, &self.machine)?,
         };
-        match answer {
-            Ok(answer) => (sheet, Ok(Told { verb, answer })),
-            Err(error) => (sheet, Err(error)),
-        }
+        Ok(Told { verb, answer })
     }
 
     // Makes the call that the line is, if the script has it.
-    fn answer_line(
-        &mut self,
-        heap: Global,
-        sheet: Sheet,
-        line: &[u8],
-    ) -> (Sheet, Result<Option<Told>, AllocError>)
-        ensures answers { IfOk result.1 (Answered (read_by self.old.calls line.now) sheet result.0 self.old self.new) }
+    fn answer_line(&mut self, heap: Global, line: &[u8]) -> Result<Option<Told>, AllocError>
+        ensures answers { IfOk result (Answered (read_by self.old.calls line.now) self.old self.new) }
         ensures calls { self.new.calls ≡ self.old.calls }
-        ensures short { OnErr result.1 ((result.0 ≡ sheet) × (self.new ≡ self.old)) }
+        ensures short { OnErr result (self.new ≡ self.old) }
     {
-        match self.read(heap, line) {
-            Ok(Some(call)) => {
-                let (sheet, told) = self.answer(heap, sheet, call);
-                (sheet, told.map(Some))
-            }
-            Ok(None) => (sheet, Ok(None)),
-            Err(error) => (sheet, Err(error)),
+        match self.read(heap, line)? {
+            Some(call) => Ok(Some(self.answer(heap, call)?)),
+            None => Ok(None),
         }
     }
 
@@ -142,12 +129,9 @@ fn answer_lines(
     text: &[u8],
     mut desk: Desk,
 ) -> anyhow::Result<()> {
-    let mut sheet = Sheet::new();
     for (number, line) in text.split_inclusive(|byte| *byte == b'\n').enumerate() {
         let line = line.strip_suffix(b"\n").unwrap_or(line);
-        let (after, told) = desk.answer_line(rt.alloc(), sheet, line);
-        sheet = after;
-        match told? {
+        match desk.answer_line(rt.alloc(), line)? {
             Some(told) => desk.tell(rt, told)?,
             None => println!(rt; "unread: {number}")?,
         }

@@ -1,6 +1,5 @@
 // What the lines of a script answer.
 use crate::{Calls, Desk};
-use run::form::Sheet;
 use std::process::Abort;
 use std::test::Fail;
 
@@ -8,51 +7,37 @@ use std::test::Fail;
 fn tells(
     rt: &(impl Abort + AllocGlobal),
     desk: &mut Desk,
-    sheet: Sheet,
     line: &[u8],
     text: &str,
-) -> Result<Sheet, Fail> {
-    let (sheet, told) = desk.answer_line(rt.alloc(), sheet, line);
-    let told = told?.ok_or("unread")?;
+) -> Result<(), Fail> {
+    let told = desk.answer_line(rt.alloc(), line)?;
+    let told = told.ok_or("unread")?;
     let printed = format!(in rt.alloc(); "{told}")?;
     assert_eq!(rt; printed.as_str(), text);
-    Ok(sheet)
+    Ok(())
 }
 
 // The line is no call of the script.
-fn unread(
-    rt: &(impl Abort + AllocGlobal),
-    desk: &mut Desk,
-    sheet: Sheet,
-    line: &[u8],
-) -> Result<Sheet, Fail> {
-    let (sheet, told) = desk.answer_line(rt.alloc(), sheet, line);
-    assert!(rt; told?.is_none());
-    Ok(sheet)
+fn unread(rt: &(impl Abort + AllocGlobal), desk: &mut Desk, line: &[u8]) -> Result<(), Fail> {
+    let told = desk.answer_line(rt.alloc(), line)?;
+    assert!(rt; told.is_none());
+    Ok(())
 }
 
 #[test]
 fn without_runs(rt: HostRuntime) -> Result<(), Fail> {
     let mut desk = Desk::new(rt.alloc(), Calls::WithoutRuns)?;
-    let sheet = tells(
-        &rt,
-        &mut desk,
-        Sheet::new(),
-        b"write 0 0 0",
-        "write: line 0",
-    )?;
-    let sheet = tells(&rt, &mut desk, sheet, b"seal", "seal: done")?;
-    let sheet = tells(&rt, &mut desk, sheet, b"translate", "translate:")?;
-    let sheet = unread(&rt, &mut desk, sheet, b"rows 5")?;
-    let sheet = unread(&rt, &mut desk, sheet, b"run")?;
-    let _ = tells(&rt, &mut desk, sheet, b"tape 1 0 1 1", "tape: done")?;
-    Ok(())
+    tells(&rt, &mut desk, b"write 0 0 0", "write: line 0")?;
+    tells(&rt, &mut desk, b"seal", "seal: done")?;
+    tells(&rt, &mut desk, b"translate", "translate:")?;
+    unread(&rt, &mut desk, b"rows 5")?;
+    unread(&rt, &mut desk, b"run")?;
+    tells(&rt, &mut desk, b"tape 1 0 1 1", "tape: done")
 }
 
 #[test]
 fn with_runs(rt: HostRuntime) -> Result<(), Fail> {
     let mut desk = Desk::new(rt.alloc(), Calls::All)?;
-    let sheet = tells(&rt, &mut desk, Sheet::new(), b"rows 5", "rows: done")?;
-    let _ = unread(&rt, &mut desk, sheet, b"run 5")?;
-    Ok(())
+    tells(&rt, &mut desk, b"rows 5", "rows: done")?;
+    unread(&rt, &mut desk, b"run 5")
 }
