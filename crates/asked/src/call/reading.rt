@@ -201,6 +201,7 @@ fn read_numbers(heap: Global, words: Parts<'_>) -> Result<Option<Vec<u128>>, All
 }
 
 // The call of this name with the numbers that the words are, if they all are.
+#[inline]
 fn with_words(heap: Global, verb: Verb, words: Parts<'_>) -> Result<Option<Call>, AllocError>
     ensures { IfOk result (λ o. said_in o ≡ named_with (Some verb) (numbers (parts_left words.entry))) }
 {
