@@ -1,5 +1,5 @@
 -- Calls with what vectors hold.
-use Rattle.std.proofs.Common.{◌≡◌, ℕ, Bool, List, [], length, vec_items, vec_len, Vec, sym, refl, subst}
+use Rattle.std.proofs.Common.{◌≡◌, ℕ, Bool, List, [], length, Option, vec_items, vec_len, Vec, sym, refl, ◌∙◌, subst}
 use Rattle.std.specs.Vec.{with_items}
 use Rattle.std.specs.declared.alloc.Global.{Global}
 use Rattle.std.proofs.lemmas.List.{with_items_is}
@@ -13,8 +13,9 @@ use Rattle.session.specs.declared.answer.Answer.{Answer}
 use Rattle.session.specs.declared.answer.Answer.TheVariants as answer
 use Rattle.session.specs.declared.bench.Bench.{Bench}
 use Rattle.session.specs.declared.bench.Lending.{Lending}
+use Rattle.session.specs.declared.bench.Recorded.{Recorded}
 use Rattle.session.specs.Among.{raised}
-use Rattle.session.specs.Performing.{Performs, OnFlags, OnLevels, flags_heard, levels_heard, with_flags, with_levels}
+use Rattle.session.specs.Performing.{Performs, OnBench, OnFlags, OnLevels, flags_heard, levels_heard, with_flags, with_levels}
 
 -- a slice of all that a vector holds, and what it holds at the end
 pub record Held {X : Type 0} (v : Vec X Global) (before after : List X) : Type 0 where
@@ -53,3 +54,21 @@ module _ (l : Ledger) (c : SheetCall) (a : Answer) (m m' : Tables) (b : Bench) w
         lends = refl;
         alone = λ i. with_levels (sym (with_items_is b.levels xs' one.size) i) (sym (with_items_is b.bits ys' two.size) i) (sym (with_items_is b.rows zs' three.size) i) b;
       }
+
+  -- the same where the recording of the bench is o, and is named r at the end
+  module _ (o r : Option Recorded) (is : b.recorded ≡ o) (stays : r ≡ o) (ys ys' : List Bool) (zs zs' : List ℕ) (bits : Held b.bits ys ys') (rows : Held b.rows zs zs') where
+    pub bench_flags : (words ws : List (Word Bool)) (xs xs' : List Bool) → ws ≡ words → Held b.flags xs xs' → ((after : Bench) → OnFlags l c a m m' b after words → OnBench o l c a m m' b after)
+        → Performs (flags_heard ws) (flags_heard ws) raised raised answer.NoRecording b.lent l c a (lent m xs ys zs) (lent m' xs' ys' zs')
+        → OnBench b.recorded l c a m m' b (record { recorded = r; flags = with_items b.flags xs'; levels = b.levels; bits = with_items b.bits ys'; rows = with_items b.rows zs'; lent = b.lent })
+    bench_flags words ws xs xs' same flags on performs =
+        subst (λ (p : Option Recorded × Option Recorded). OnBench p.0 l c a m m' b (record { recorded = p.1; flags = with_items b.flags xs'; levels = b.levels; bits = with_items b.bits ys'; rows = with_items b.rows zs'; lent = b.lent }))
+        (λ i. (sym is i, (is ∙ sym stays) i))
+        (on (with_flags xs' ys' zs' b) (on_flags words xs xs' ys ys' zs zs' flags bits rows (subst (λ us. Performs (flags_heard us) (flags_heard us) raised raised answer.NoRecording b.lent l c a (lent m xs ys zs) (lent m' xs' ys' zs')) same performs)))
+
+    pub bench_levels : (words : List (Word Ternary)) (xs xs' : List Ternary) → Held b.levels xs xs' → ((after : Bench) → OnLevels l c a m m' b after words → OnBench o l c a m m' b after)
+        → Performs (levels_heard words) (flags_heard []) (λ x. x) raised answer.NotTwoValued b.lent l c a (lent m xs ys zs) (lent m' xs' ys' zs')
+        → OnBench b.recorded l c a m m' b (record { recorded = r; flags = b.flags; levels = with_items b.levels xs'; bits = with_items b.bits ys'; rows = with_items b.rows zs'; lent = b.lent })
+    bench_levels words xs xs' levels on performs =
+        subst (λ (p : Option Recorded × Option Recorded). OnBench p.0 l c a m m' b (record { recorded = p.1; flags = b.flags; levels = with_items b.levels xs'; bits = with_items b.bits ys'; rows = with_items b.rows zs'; lent = b.lent }))
+        (λ i. (sym is i, (is ∙ sym stays) i))
+        (on (with_levels xs' ys' zs' b) (on_levels words xs xs' ys ys' zs zs' levels bits rows performs))

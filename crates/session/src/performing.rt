@@ -4,8 +4,10 @@ ghost use Rattle.recording.specs.Made.{gapped_word};
 ghost use Rattle.machine.specs.Machines.{tables};
 ghost use Rattle.run.specs.Histories.{ledger_of, step as next_ledger};
 ghost use Rattle.run.specs.Story.{heard, lent as lent_of};
-ghost use Rattle.session.specs.Performing.{OnBench, OnFlags, OnLevels, Performs};
+ghost use Rattle.session.specs.Among.{raised};
+ghost use Rattle.session.specs.Performing.{flags_heard, levels_heard, OnBench, Performs};
 ghost use Rattle.session.specs.Replies.{made_as};
+ghost use Rattle.session.specs.declared.answer.Answer.TheVariants.{NoRecording, NotTwoValued};
 
 use crate::among::AmongThree;
 use crate::answer::Answer;
@@ -16,7 +18,7 @@ use machine::place::Machine;
 use recording::gapped::GappedTape;
 use recording::recording::Recording;
 use recording::tape::Tape;
-use recording::truth::TwoValued;
+use recording::truth::{Ternary, TwoValued};
 use run::form::Sheet;
 use run::step::perform as perform_on;
 
@@ -71,24 +73,26 @@ fn on_flags<R: Recording<Truth = bool>>(
     sheet: Sheet,
     call: SheetCall,
     recordings: &[R],
+    lending: Lending,
     machine: &mut Machine,
-    bench: &mut Bench,
+    flags: &mut [bool],
+    bits: &mut [bool],
+    rows: &mut [u64],
 ) -> Stepped
     ensures ledger { ledger_of result.sheet ≡ next_ledger (ledger_of sheet) (made_as call) }
-    ensures performs { OnFlags (ledger_of sheet) call result.answer (tables machine.old) (tables machine.new) bench.old bench.new (map R.Recording.word recordings.now) }
+    ensures performs { Performs (flags_heard (map R.Recording.word recordings.now)) (flags_heard (map R.Recording.word recordings.now)) raised raised NoRecording lending (ledger_of sheet) call result.answer (lent_of (tables machine.old) flags.old bits.old rows.old) (lent_of (tables machine.new) flags.new bits.new rows.new) }
 {
-    let lent = bench.lent;
     perform_with(
         sheet,
         call,
         Answer::NoRecording,
         recordings,
         recordings,
-        lent,
+        lending,
         machine,
-        bench.flags.as_mut_slice(),
-        bench.bits.as_mut_slice(),
-        bench.rows.as_mut_slice(),
+        flags,
+        bits,
+        rows,
     )
 }
 
@@ -96,26 +100,28 @@ fn on_flags<R: Recording<Truth = bool>>(
 fn on_levels(
     sheet: Sheet,
     call: SheetCall,
-    tape: GappedTape,
+    tape: &GappedTape,
+    lending: Lending,
     machine: &mut Machine,
-    bench: &mut Bench,
+    levels: &mut [Ternary],
+    bits: &mut [bool],
+    rows: &mut [u64],
 ) -> Stepped
     ensures ledger { ledger_of result.sheet ≡ next_ledger (ledger_of sheet) (made_as call) }
-    ensures performs { OnLevels (ledger_of sheet) call result.answer (tables machine.old) (tables machine.new) bench.old bench.new (gapped_word tape ∷ []) }
+    ensures performs { Performs (levels_heard (gapped_word tape.now ∷ [])) (flags_heard []) (λ p. p) raised NotTwoValued lending (ledger_of sheet) call result.answer (lent_of (tables machine.old) levels.old bits.old rows.old) (lent_of (tables machine.new) levels.new bits.new rows.new) }
 {
-    let lent = bench.lent;
     let none: [Tape; 0] = [];
     perform_with(
         sheet,
         call,
         Answer::NotTwoValued,
-        &[tape],
+        std::slice::from_ref(tape),
         &none,
-        lent,
+        lending,
         machine,
-        bench.levels.as_mut_slice(),
-        bench.bits.as_mut_slice(),
-        bench.rows.as_mut_slice(),
+        levels,
+        bits,
+        rows,
     )
 }
 
@@ -124,13 +130,35 @@ pub fn perform(sheet: Sheet, call: SheetCall, machine: &mut Machine, bench: &mut
     ensures ledger { ledger_of result.sheet ≡ next_ledger (ledger_of sheet) (made_as call) }
     ensures performs { OnBench bench.old.recorded (ledger_of sheet) call result.answer (tables machine.old) (tables machine.new) bench.old bench.new }
 {
-    match bench.recorded {
+    let Bench {
+        recorded,
+        flags,
+        levels,
+        bits,
+        rows,
+        lent,
+    } = bench;
+    let bits = bits.as_mut_slice();
+    let rows = rows.as_mut_slice();
+    match recorded {
         None => {
             let none: [Tape; 0] = [];
-            on_flags(sheet, call, &none, machine, bench)
+            let flags = flags.as_mut_slice();
+            on_flags(sheet, call, &none, *lent, machine, flags, bits, rows)
         }
-        Some(Recorded::Plain(tape)) => on_flags(sheet, call, &[tape], machine, bench),
-        Some(Recorded::Gapped(tape)) => on_levels(sheet, call, tape, machine, bench),
-        Some(Recorded::Turning(wheel)) => on_flags(sheet, call, &[wheel], machine, bench),
+        Some(Recorded::Plain(tape)) => {
+            let tapes = std::slice::from_ref(tape);
+            let flags = flags.as_mut_slice();
+            on_flags(sheet, call, tapes, *lent, machine, flags, bits, rows)
+        }
+        Some(Recorded::Gapped(tape)) => {
+            let levels = levels.as_mut_slice();
+            on_levels(sheet, call, tape, *lent, machine, levels, bits, rows)
+        }
+        Some(Recorded::Turning(wheel)) => {
+            let wheels = std::slice::from_ref(wheel);
+            let flags = flags.as_mut_slice();
+            on_flags(sheet, call, wheels, *lent, machine, flags, bits, rows)
+        }
     }
 }
