@@ -4,5 +4,6 @@
 use talk::answer_all;
 
 fn main(rt: HostRuntime) -> anyhow::Result<()> {
-    answer_all(&rt)
+    answer_all(&rt)?;
+    Ok(())
 }

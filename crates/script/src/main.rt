@@ -5,5 +5,6 @@
 use talk::answer_without_runs;
 
 fn main(rt: HostRuntime) -> anyhow::Result<()> {
-    answer_without_runs(&rt)
+    answer_without_runs(&rt)?;
+    Ok(())
 }

@@ -4,6 +4,7 @@
 ghost use Rattle.std.specs.Prelude.{◌≡◌, IfOk, OnErr};
 ghost use Rattle.session.specs.Benches.{Fresh};
 ghost use Rattle.talk.specs.Desks.{read_by, Answered, Tells};
+ghost use Rattle.talk.specs.declared.Calls.TheVariants.{All, WithoutRuns};
 ghost use Rattle.asked.specs.Reading.{said_in};
 
 use asked::call::Call;
@@ -30,9 +31,9 @@ const CELLS: usize = 278_528;
 
 const ROWS: usize = 4_352;
 
-// Which calls a script has.
-#[derive(Clone, Copy)]
-enum Calls {
+/// Which calls a script has.
+#[derive(Clone, Copy, PartialEq, Eq, Debug)]
+pub enum Calls {
     All,
     WithoutRuns,
 }
@@ -139,24 +140,33 @@ fn answer_lines(
     Ok(())
 }
 
-// Answers the lines of standard input. Input that is too long is not read at all.
-fn answer_input(rt: &(impl Print + Input + AllocGlobal), calls: Calls) -> anyhow::Result<()> {
+// Answers the lines of standard input on a new desk, and which calls that has. Of input that is too long no line is read.
+fn answer_input(rt: &(impl Print + Input + AllocGlobal), calls: Calls) -> anyhow::Result<Calls>
+    ensures { IfOk result (λ had. had ≡ calls) }
+{
     let mut buf = vec![in rt.alloc(); 0u8; MOST + 1]?;
     let used = read_input(rt, &mut buf)?;
     if used > MOST {
         println!(rt; "unread: too long")?;
-        return Ok(());
+        return Ok(calls);
     }
     let desk = Desk::new(rt.alloc(), calls)?;
-    answer_lines(rt, &buf[..used], desk)
+    let had = desk.calls;
+    answer_lines(rt, &buf[..used], desk)?;
+    Ok(had)
 }
 
-/// Answers the lines of standard input, of all calls. No contract can say what a terminal gives and takes.
-pub fn answer_all(rt: &(impl Print + Input + AllocGlobal)) -> anyhow::Result<()> {
+/// Answers the lines of standard input, of all calls, and which calls its desk had. What the terminal gave and took no
+/// contract can say.
+pub fn answer_all(rt: &(impl Print + Input + AllocGlobal)) -> anyhow::Result<Calls>
+    ensures { IfOk result (λ had. had ≡ All) }
+{
     answer_input(rt, Calls::All)
 }
 
 /// Answers the lines of standard input, but for the calls that write runs out, which it tells as unread.
-pub fn answer_without_runs(rt: &(impl Print + Input + AllocGlobal)) -> anyhow::Result<()> {
+pub fn answer_without_runs(rt: &(impl Print + Input + AllocGlobal)) -> anyhow::Result<Calls>
+    ensures { IfOk result (λ had. had ≡ WithoutRuns) }
+{
     answer_input(rt, Calls::WithoutRuns)
 }
