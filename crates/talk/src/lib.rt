@@ -140,20 +140,33 @@ fn answer_lines(
     Ok(())
 }
 
-// Answers the lines of standard input on a new desk, and which calls that has. Of input that is too long no line is read.
+// Answers the lines of a text on a new desk, and which calls that has.
+fn answer_text(rt: &(impl Print + AllocGlobal), text: &[u8], calls: Calls) -> anyhow::Result<Calls>
+    ensures { IfOk result (λ had. had ≡ calls) }
+{
+    let desk = Desk::new(rt.alloc(), calls)?;
+    let had = desk.calls;
+    answer_lines(rt, text, desk)?;
+    Ok(had)
+}
+
+// The text that comes from standard input, as far as the buffer goes.
+fn read_text<'a>(rt: &impl Input, buf: &'a mut [u8]) -> io::Result<&'a [u8]> {
+    let used = read_input(rt, buf)?;
+    Ok(&buf[..used])
+}
+
+// Answers the lines of standard input, with these calls. Of input that is too long no line is read.
 fn answer_input(rt: &(impl Print + Input + AllocGlobal), calls: Calls) -> anyhow::Result<Calls>
     ensures { IfOk result (λ had. had ≡ calls) }
 {
     let mut buf = vec![in rt.alloc(); 0u8; MOST + 1]?;
-    let used = read_input(rt, &mut buf)?;
-    if used > MOST {
+    let text = read_text(rt, &mut buf)?;
+    if text.len() > MOST {
         println!(rt; "unread: too long")?;
         return Ok(calls);
     }
-    let desk = Desk::new(rt.alloc(), calls)?;
-    let had = desk.calls;
-    answer_lines(rt, &buf[..used], desk)?;
-    Ok(had)
+    answer_text(rt, text, calls)
 }
 
 /// Answers the lines of standard input, of all calls, and which calls its desk had. What the terminal gave and took no
