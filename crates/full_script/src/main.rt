@@ -1,9 +1,9 @@
 // Reads calls from standard input, one a line, and prints each answer before the next call is made. It knows all calls.
 #![tactic(auto)]
 
-use talk::answer_all;
+use talk::talk_with_all;
 
 fn main(rt: HostRuntime) -> anyhow::Result<()> {
-    answer_all(&rt)?;
+    talk_with_all(&rt)?;
     Ok(())
 }

@@ -2,9 +2,9 @@
 // write runs out.
 #![tactic(auto)]
 
-use talk::answer_without_runs;
+use talk::talk_without_runs;
 
 fn main(rt: HostRuntime) -> anyhow::Result<()> {
-    answer_without_runs(&rt)?;
+    talk_without_runs(&rt)?;
     Ok(())
 }

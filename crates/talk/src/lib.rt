@@ -125,11 +125,11 @@ impl Desk {
 }
 
 // Answers the lines of a text, one after another: a line that is no call of the script is told as unread, by its number.
-fn answer_lines(
+fn answer_lines<E: From<io::Error> + From<AllocError>>(
     rt: &(impl Print + AllocGlobal),
     text: &[u8],
     mut desk: Desk,
-) -> anyhow::Result<()> {
+) -> Result<(), E> {
     for (number, line) in text.split_inclusive(|byte| *byte == b'\n').enumerate() {
         let line = line.strip_suffix(b"\n").unwrap_or(line);
         match desk.answer_line(rt.alloc(), line)? {
@@ -141,12 +141,17 @@ fn answer_lines(
 }
 
 // Answers the lines of a text on a new desk, and which calls that has.
-fn answer_text(rt: &(impl Print + AllocGlobal), text: &[u8], calls: Calls) -> anyhow::Result<Calls>
+fn answer_text<E: From<io::Error> + From<AllocError>>(
+    rt: &(impl Print + AllocGlobal),
+    text: &[u8],
+    calls: Calls,
+) -> Result<Calls, E>
     ensures { IfOk result (λ had. had ≡ calls) }
 {
     let desk = Desk::new(rt.alloc(), calls)?;
     let had = desk.calls;
-    answer_lines(rt, text, desk)?;
+    let told: Result<(), E> = answer_lines(rt, text, desk);
+    told?;
     Ok(had)
 }
 
@@ -157,7 +162,10 @@ fn read_text<'a>(rt: &impl Input, buf: &'a mut [u8]) -> io::Result<&'a [u8]> {
 }
 
 // Answers the lines of standard input, with these calls. Of input that is too long no line is read.
-fn answer_input(rt: &(impl Print + Input + AllocGlobal), calls: Calls) -> anyhow::Result<Calls>
+fn answer_input<E: From<io::Error> + From<AllocError>>(
+    rt: &(impl Print + Input + AllocGlobal),
+    calls: Calls,
+) -> Result<Calls, E>
     ensures { IfOk result (λ had. had ≡ calls) }
 {
     let mut buf = vec![in rt.alloc(); 0u8; MOST + 1]?;
@@ -169,17 +177,41 @@ fn answer_input(rt: &(impl Print + Input + AllocGlobal), calls: Calls) -> anyhow
     answer_text(rt, text, calls)
 }
 
-/// Answers the lines of standard input, of all calls, and which calls its desk had. What the terminal gave and took no
+/// Answers the lines of standard input, of all calls, and which calls that were. What the terminal gave and took no
 /// contract can say.
-pub fn answer_all(rt: &(impl Print + Input + AllocGlobal)) -> anyhow::Result<Calls>
+pub fn talk_with_all(rt: &(impl Print + Input + AllocGlobal)) -> anyhow::Result<Calls>
     ensures { IfOk result (λ had. had ≡ All) }
 {
     answer_input(rt, Calls::All)
 }
 
 /// Answers the lines of standard input, but for the calls that write runs out, which it tells as unread.
-pub fn answer_without_runs(rt: &(impl Print + Input + AllocGlobal)) -> anyhow::Result<Calls>
+pub fn talk_without_runs(rt: &(impl Print + Input + AllocGlobal)) -> anyhow::Result<Calls>
     ensures { IfOk result (λ had. had ≡ WithoutRuns) }
 {
     answer_input(rt, Calls::WithoutRuns)
+}
+
+// Answers as `answer_input` does, and fails with the error itself, of which `anyhow` keeps the text alone.
+fn answer_or_error(rt: &(impl Print + Input + AllocGlobal), calls: Calls) -> io::Result<Calls>
+    ensures { IfOk result (λ had. had ≡ calls) }
+{
+    answer_input(rt, calls)
+}
+
+/// Answers the lines of standard input, of all calls, for a caller who has to know which error stopped it.
+pub fn answer_all(rt: &(impl Print + Input + AllocGlobal)) -> io::Result<()> {
+    match answer_or_error(rt, Calls::All)? {
+        Calls::All => Ok(()),
+        Calls::WithoutRuns => unreachable!(),
+    }
+}
+
+/// Answers the lines of standard input, but for the calls that write runs out, for a caller who has to know which error
+/// stopped it.
+pub fn answer_without_runs(rt: &(impl Print + Input + AllocGlobal)) -> io::Result<()> {
+    match answer_or_error(rt, Calls::WithoutRuns)? {
+        Calls::WithoutRuns => Ok(()),
+        Calls::All => unreachable!(),
+    }
 }
